@@ -12,7 +12,7 @@ use Rattle.demux.specs.declared.decision.Whose.TheVariants.{Known, New}
 use Rattle.demux.specs.declared.meant.Meant.{Meant}
 use Rattle.demux.specs.declared.meant.Meant.TheVariants as now
 use Rattle.demux.specs.declared.packet.LentPacket.{LentPacket}
-use Rattle.demux.specs.Destinations.{bound_for, home_slice}
+use Rattle.demux.specs.Destinations.{bound_for, start_slice}
 use Rattle.demux.specs.Meant.{meaning_of}
 use Rattle.demux.specs.Resolved.{IsDue, book_after, book_behind, book_with, decided, slot_of}
 use Rattle.demux.specs.Texts.{move_note}
@@ -90,7 +90,7 @@ turned_packet slices book subscribers line slot p many is low moment =
     stays_turned slices book subscribers line (decision.Packet slot p) (now.Packet slot p) many is refl (λ own. refl)
     (λ prior stand. refl) (omega (arith, low, many)) moment
 
--- one subscriber more, bound for its home slice
+-- one subscriber more, bound for its start slice
 push_bound : (old : List SubscriberState) (s : SubscriberState) (slot home : ℕ)
     → (slot ≡ length old → s.destination ≡ home)
     → destination_or home (slice_get (old ++ s ∷ []) slot) ≡ destination_or home (slice_get old slot)
@@ -114,7 +114,7 @@ admitted_standing slices slot old new before at is standing =
       beyond = λ k past. standing.beyond k (omega (arith, past, count));
     }
 
-home_low : (slices slot : ℕ) → 1 ≤ slices → home_slice slices slot < slices
+home_low : (slices slot : ℕ) → 1 ≤ slices → start_slice slices slot < slices
 home_low slices slot some = mod_below slot slices (omega (arith, some))
 
 admitted_rest : NewOneIsAtRest → (slices slot : ℕ) (old new : List SubscriberState) (lines latest : ℕ) → 1 ≤ slices
@@ -166,8 +166,8 @@ turned_command fresh slices book subscribers line (New imsi) c slot book_now sub
       stand = stand_so slices book subscribers line (decision.Command (New imsi) c) book_now subscribers_now is book_is
           (λ own.
           ap (λ s. bound_of slices s own) admits.pushed
-          ∙ push_bound subscribers admits.subscriber own (home_slice slices own)
-          (λ same. admits.destination ∙ ap (home_slice slices) (sym many ∙ sym same)));
+          ∙ push_bound subscribers admits.subscriber own (start_slice slices own)
+          (λ same. admits.destination ∙ ap (start_slice slices) (sym many ∙ sym same)));
       keep = λ before standing.
           admitted_standing slices (length book) subscribers subscribers_now before (sym many) admits standing;
       rest = λ lines latest rest.
@@ -213,7 +213,7 @@ sent_rests slices lines latest slot slice s low is = record {
 bound_there : (slices : ℕ) (subscribers : List SubscriberState) (slot : ℕ) (s : SubscriberState)
     → slot < length subscribers → s ≡ get_or subscribers slot s → bound_of slices subscribers slot ≡ s.destination
 bound_there slices subscribers slot s low is =
-    ap (destination_or (home_slice slices slot)) (slice_get-get_or subscribers slot s low)
+    ap (destination_or (start_slice slices slot)) (slice_get-get_or subscribers slot s low)
     ∙ ap (λ (x : SubscriberState). x.destination) (sym is)
 
 if_true : {X : Type 0} (test : Bool) (x y : X) → test ≡ true → cond test x y ≡ x
@@ -282,7 +282,7 @@ turned_move slices book subscribers line slot slice it subscribers_now many is l
                 (sym (get_or-set_same subscribers slot sent sent within))
                 ∙ sym (if_true (slot == own) slice (bound_of slices subscribers own) (eq-eqb slot own same))
             | inr other ↦
-                ap (destination_or (home_slice slices own)) (slice_get-set_other subscribers slot own sent other)
+                ap (destination_or (start_slice slices own)) (slice_get-set_other subscribers slot own sent other)
                 ∙ sym (if_false (slot == own) slice (bound_of slices subscribers own) (ne_eqb slot own other))
           ]);
       keep = λ before standing. record {

@@ -2,7 +2,7 @@
 use Rattle.std.specs.Prelude.{◌≡◌, ◌≢◌, ℕ, ◌≤◌, ◌<◌, ◌⊎◌, List, [], ◌∷◌, ◌++◌, length}
 use Rattle.std.specs.Prelude.{None, get_or, set, slice_get}
 use Rattle.trace_lines.specs.Line.{Line}
-use Rattle.demux.specs.Destinations.{home_slice}
+use Rattle.demux.specs.Destinations.{start_slice}
 use Rattle.demux.specs.Meant.{meaning_of}
 use Rattle.demux.specs.Texts.{move_note}
 use Rattle.demux.specs.Trace.{Meaning, command, packet, move, note, book_of, destination_after}
@@ -31,7 +31,7 @@ HasItsMoment moment (note text) = Unit {0}
 
 -- where a slot is bound for
 abbrev pub bound_of : ℕ → List SubscriberState → ℕ → ℕ
-bound_of slices subscribers slot = destination_or (home_slice slices slot) (slice_get subscribers slot)
+bound_of slices subscribers slot = destination_or (start_slice slices slot) (slice_get subscribers slot)
 
 -- a book and its subscribers are what lines leave
 pub record Stand (slices : ℕ) (book : List (List ℕ)) (subscribers : List SubscriberState) (prior : List Line) :
@@ -45,12 +45,12 @@ pub record AreStanding (subscribers : List SubscriberState) (before : Histories)
       → Represents (get_or subscribers slot none) slot (before slot)
   pub beyond : (slot : ℕ) → length subscribers ≤ slot → before slot ≡ []
 
--- a new IMSI gets a subscriber that is bound for its home slice
+-- a new IMSI gets a subscriber that is bound for its start slice
 pub record IsAdmitted (slices slot : ℕ) (old new : List SubscriberState) : Type 0 where
   pub subscriber : SubscriberState
   pub pushed : new ≡ old ++ subscriber ∷ []
   pub represents : StandsFor subscriber slot [] 0
-  pub destination : subscriber.destination ≡ home_slice slices slot
+  pub destination : subscriber.destination ≡ start_slice slices slot
   pub last : last_of subscriber ≡ None
 
 abbrev pub Admits : ℕ → List (List ℕ) → Whose → List SubscriberState → List SubscriberState → Type 0

@@ -2,7 +2,7 @@
 use Rattle.std.specs.Prelude.{◌≡◌, ℕ, ◌<◌, ◌≤◌, Option, Some, None, List, []}
 use Rattle.std.specs.Prelude.{length, get_or, slice_get, unwrap_or}
 use Rattle.trace_lines.specs.Line.{Line}
-use Rattle.demux.specs.Destinations.{home_slice}
+use Rattle.demux.specs.Destinations.{start_slice}
 use Rattle.demux.specs.Trace.{book_of, destination_after}
 use Rattle.gate_model.specs.declared.event.Event.{Event}
 use Rattle.gate_model.specs.Events.{FewEvents}
@@ -60,13 +60,13 @@ pub record RepresentsAll (rest : Rest) (before : Histories) : Type 0 where
   pub beyond : (slot : ℕ) → length rest.subscribers ≤ slot → before slot ≡ []
   pub few : (slot : ℕ) → length (before slot) ≤ rest.lines
 
--- where a slot is bound for: by its subscriber, or its home slice
+-- where a slot is bound for: by its subscriber, or its start slice
 abbrev pub destination_or : ℕ → Option SubscriberState → ℕ
 destination_or home None = home
 destination_or home (Some subscriber) = subscriber.destination
 
 abbrev pub bound_at : Rest → ℕ → ℕ
-bound_at rest slot = destination_or (home_slice rest.slices slot) (slice_get rest.subscribers slot)
+bound_at rest slot = destination_or (start_slice rest.slices slot) (slice_get rest.subscribers slot)
 
 -- It is what lines leave: their book, where each slot is bound for behind them, and how many they are.
 pub record IsBehind (rest : Rest) (lines : List Line) : Type 0 where

@@ -4,14 +4,14 @@ ghost use Rattle.demux.specs.Resolved.{IsDue, slot_of, book_with};
 ghost use Rattle.at_rest.specs.Meant.{Admits, GoesOrStays, Turned};
 
 use address_book::AddressBook;
-use demux::{Decision, Meant, Whose, decide, home_slice, move_note};
+use demux::{Decision, Meant, Whose, decide, move_note, start_slice};
 use pc_base::{SliceNo, Slot};
 use std::alloc::{AllocError, Global};
 use subscriber::Subscriber;
 use trace_lines::TraceLine;
 
 /// What a line means by the book and the subscribers in it. A new IMSI gets the next slot, and a subscriber
-/// that is bound for its home slice; an instruction to move binds a subscriber for its slice.
+/// that is bound for its start slice; an instruction to move binds a subscriber for its slice.
 pub fn decide_line<'a>(
     alloc: Global,
     slices: u8,
@@ -56,7 +56,7 @@ fn admit(
         Whose::Known(slot) => Ok(slot),
         Whose::New(imsi) => {
             let slot = Whose::New(imsi).admit(book)?;
-            let home = home_slice(slot, slices);
+            let home = start_slice(slot, slices);
             subscribers.push(Subscriber::new(alloc, slot, home)?)?;
             Ok(slot)
         }

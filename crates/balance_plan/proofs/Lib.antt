@@ -2,3 +2,9 @@ pub mod Choosing
 pub mod Moving
 pub mod Totals
 pub mod Stepping
+pub mod PacketLemmas
+pub mod LoadLemmas
+pub mod WriterLemmas
+pub mod ApartLemmas
+pub mod BalanceLemmas
+pub mod LevelLemmas

@@ -4,3 +4,11 @@ pub mod Plan
 pub mod Laws
 pub mod Rows
 pub mod Shares
+pub mod Written
+pub mod Packets
+pub mod Plans
+pub mod Levelled
+pub mod Balance
+pub mod Writing
+pub mod Said
+pub mod Report

@@ -1,5 +1,8 @@
-//! Moves that level the slices of a gateway: by the packets of each subscriber, which go from the slice that carries
-//! most to the one that carries least, step by step. Whoever counts the packets, and does the moves, is above.
+//! Moves that level the slices of a gateway: by the packets of each subscriber, which go from the slice that
+//! carries most to the one that carries least, step by step (`plan`). And a trace levelled by its report
+//! (`balance`): a trace, and behind the line `REPORT` a report of it, are read from a source as an audit reads
+//! them; the trace is written again, and behind each `FENCE` moves that level the slices by the packets that the
+//! report tells of the epoch before it.
 //!
 //! ```
 //! use balance_plan::{Load, plan};
@@ -17,12 +20,18 @@
 //! ```
 #![tactic(auto)]
 
-mod laws;
+mod balance_laws;
+mod balancing;
 mod load;
+mod packets;
+mod plan_laws;
 mod planning;
 mod shares;
+mod writing;
 
-pub use laws::{planned_moves_are_of_loads, steps_level, worked_rows};
+pub use balance_laws::{one_balanced_text, planned_moves_apart, plans_level};
+pub use balancing::{Balanced, balance};
 pub use load::{Load, Planned};
+pub use plan_laws::{planned_moves_are_of_loads, steps_level, worked_rows};
 pub use planning::plan;
-pub use std::alloc::AllocError;
+pub use std::alloc::{AllocError, AllocError as NoMemory};

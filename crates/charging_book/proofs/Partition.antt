@@ -16,7 +16,8 @@ use Rattle.charging_book.proofs.Steps.{last_piece-push, story-push, lives-push, 
 use Rattle.charging_book.proofs.Standing.{own-forwarded, other-forwarded, own-closed, other-closed}
 use Rattle.charging_book.proofs.Pieces.{joined, packet_in, item_kept, own_rows, others_rows, rows_tell, tell-append, last_of, opens_tell}
 
--- so far the rows tell pieces that are, with the last one, the life's packets; and a life that isn't open has no last one
+-- so far the rows tell pieces that are, with the last one, the life's packets; and a life that isn't open has no last
+-- one
 record Holds (life : ℕ) (happened : List Happening) : Type 0 where
   pieces : List Finished
   packets : joined pieces ++ last_of life happened ≡ packets_of life happened

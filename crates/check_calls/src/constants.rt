@@ -1,15 +1,15 @@
 //! The public constants of the libraries, each behind its name.
 use crate::kinds::named;
 use crate::line::Words;
-use crate::shown::Line;
-use crate::stop::Stop;
+use crate::shown::AnswerLine;
+use crate::stop::CallStop;
 use gtpv2_ie::{cause_value, element_type, interface};
 
 /// A name and its number.
 type Named = (&'static str, u64);
 
 /// The constants of a group.
-pub fn constants(words: &mut Words<'_>, line: &mut Line) -> Result<(), Stop> {
+pub fn constants(words: &mut Words<'_>, line: &mut AnswerLine) -> Result<(), CallStop> {
     for (name, number) in named(&GROUPS, words.word())? {
         line.word(name);
         line.shown(number);

@@ -1,8 +1,8 @@
 //! Policing, and charging.
 use crate::kinds::Kind;
 use crate::line::Words;
-use crate::shown::Line;
-use crate::stop::Stop;
+use crate::shown::AnswerLine;
+use crate::stop::CallStop;
 use charging_book::{Book, ChargeRow, Open, Piece, Posting, Why};
 use pc_base::{Kbps, Moment};
 use rate_policer::{Bucket, Cost, conforms};
@@ -12,8 +12,8 @@ pub fn answer(
     alloc: Global,
     kind: Kind,
     words: &mut Words<'_>,
-    line: &mut Line,
-) -> Result<(), Stop> {
+    line: &mut AnswerLine,
+) -> Result<(), CallStop> {
     match kind {
         Kind::Police => policed(alloc, words, line),
         Kind::Conforms => conforming(alloc, words, line),
@@ -24,7 +24,7 @@ pub fn answer(
 }
 
 /// Asks of a new bucket, each as the list of what passed answers it too.
-fn policed(alloc: Global, words: &mut Words<'_>, line: &mut Line) -> Result<(), Stop> {
+fn policed(alloc: Global, words: &mut Words<'_>, line: &mut AnswerLine) -> Result<(), CallStop> {
     let mut bucket = Bucket::new(words.rate()?);
     let mut passed = Vec::new(alloc);
     for _ in 0..u64::MAX {
@@ -41,19 +41,19 @@ fn policed(alloc: Global, words: &mut Words<'_>, line: &mut Line) -> Result<(), 
 }
 
 /// An ask of a bucket that let these pass, which is to answer as they do.
-fn ask(bucket: &mut Bucket, passed: &[Cost], at: Moment, octets: u32) -> Result<bool, Stop> {
+fn ask(bucket: &mut Bucket, passed: &[Cost], at: Moment, octets: u32) -> Result<bool, CallStop> {
     if at < bucket.last() {
-        return Err(Stop::Line);
+        return Err(CallStop::Line);
     }
     let passes = bucket.ask(at, octets);
     if passes != conforms(bucket.rate(), passed, Cost::of(octets, at)) {
-        return Err(Stop::Differ);
+        return Err(CallStop::Differ);
     }
     Ok(passes)
 }
 
 /// The next moment and octets, where some are left.
-fn next_ask(words: &mut Words<'_>) -> Result<Option<(Moment, u32)>, Stop> {
+fn next_ask(words: &mut Words<'_>) -> Result<Option<(Moment, u32)>, CallStop> {
     match words.next_word() {
         Some(word) => {
             let at = Words::parts(word, b' ').moment()?;
@@ -64,7 +64,7 @@ fn next_ask(words: &mut Words<'_>) -> Result<Option<(Moment, u32)>, Stop> {
 }
 
 /// The next moment and millibits, where some are left.
-fn next_cost(words: &mut Words<'_>) -> Result<Option<Cost>, Stop> {
+fn next_cost(words: &mut Words<'_>) -> Result<Option<Cost>, CallStop> {
     match words.next_word() {
         Some(word) => {
             let at = Words::parts(word, b' ').moment()?;
@@ -77,9 +77,9 @@ fn next_cost(words: &mut Words<'_>) -> Result<Option<Cost>, Stop> {
     }
 }
 
-fn conforming(alloc: Global, words: &mut Words<'_>, line: &mut Line) -> Result<(), Stop> {
+fn conforming(alloc: Global, words: &mut Words<'_>, line: &mut AnswerLine) -> Result<(), CallStop> {
     let rate = words.rate()?;
-    let cost = next_cost(words)?.ok_or(Stop::Line)?;
+    let cost = next_cost(words)?.ok_or(CallStop::Line)?;
     let mut passed = Vec::new(alloc);
     for _ in 0..u64::MAX {
         let Some(earlier) = next_cost(words)? else {
@@ -92,7 +92,7 @@ fn conforming(alloc: Global, words: &mut Words<'_>, line: &mut Line) -> Result<(
 }
 
 /// A bucket of parts behind asks, by its parts.
-fn bucket(words: &mut Words<'_>, line: &mut Line) -> Result<(), Stop> {
+fn bucket(words: &mut Words<'_>, line: &mut AnswerLine) -> Result<(), CallStop> {
     let (rate, level) = (words.rate()?, words.number(u64::MAX)?);
     match Bucket::of(rate, level, words.moment()?) {
         Some(bucket) => asked(bucket, words, line),
@@ -103,13 +103,13 @@ fn bucket(words: &mut Words<'_>, line: &mut Line) -> Result<(), Stop> {
     }
 }
 
-fn asked(mut bucket: Bucket, words: &mut Words<'_>, line: &mut Line) -> Result<(), Stop> {
+fn asked(mut bucket: Bucket, words: &mut Words<'_>, line: &mut AnswerLine) -> Result<(), CallStop> {
     for _ in 0..u64::MAX {
         let Some((at, octets)) = next_ask(words)? else {
             break;
         };
         if at < bucket.last() {
-            return Err(Stop::Line);
+            return Err(CallStop::Line);
         }
         line.word(if bucket.ask(at, octets) { "1" } else { "0" });
     }
@@ -119,7 +119,7 @@ fn asked(mut bucket: Bucket, words: &mut Words<'_>, line: &mut Line) -> Result<(
 }
 
 /// What steps make of a new book, one by one and all at once.
-fn book(alloc: Global, words: &mut Words<'_>, line: &mut Line) -> Result<(), Stop> {
+fn book(alloc: Global, words: &mut Words<'_>, line: &mut AnswerLine) -> Result<(), CallStop> {
     let mut books = Books {
         one: Book::new(alloc),
         all: Book::new(alloc),
@@ -133,7 +133,7 @@ fn book(alloc: Global, words: &mut Words<'_>, line: &mut Line) -> Result<(), Sto
     }
     books.post_all()?;
     if !books.agree() {
-        return Err(Stop::Differ);
+        return Err(CallStop::Differ);
     }
     accounts(&books.one, line);
     Ok(())
@@ -148,7 +148,7 @@ struct Books {
 }
 
 impl Books {
-    fn step(&mut self, word: &[u8]) -> Result<(), Stop> {
+    fn step(&mut self, word: &[u8]) -> Result<(), CallStop> {
         if word == b"t".as_slice() {
             self.take()
         } else {
@@ -156,22 +156,22 @@ impl Books {
         }
     }
 
-    fn post(&mut self, posting: Posting) -> Result<(), Stop> {
+    fn post(&mut self, posting: Posting) -> Result<(), CallStop> {
         self.one.post_one(&posting)?;
         self.postings.push(posting)?;
         Ok(())
     }
 
-    fn post_all(&mut self) -> Result<(), Stop> {
+    fn post_all(&mut self) -> Result<(), CallStop> {
         self.all.post(&self.postings)?;
         self.postings.clear();
         Ok(())
     }
 
-    fn take(&mut self) -> Result<(), Stop> {
+    fn take(&mut self) -> Result<(), CallStop> {
         self.post_all()?;
         if self.one.take_closed() != self.all.take_closed() {
-            return Err(Stop::Differ);
+            return Err(CallStop::Differ);
         }
         Ok(())
     }
@@ -181,7 +181,7 @@ impl Books {
     }
 }
 
-fn posting_of(step: &mut Words<'_>) -> Result<Posting, Stop> {
+fn posting_of(step: &mut Words<'_>) -> Result<Posting, CallStop> {
     let kind = step.word();
     let life = step.number(u64::MAX)?;
     match kind {
@@ -199,7 +199,7 @@ fn posting_of(step: &mut Words<'_>) -> Result<Posting, Stop> {
         b"v" => Ok(close(life, Why::Volume)),
         b"q" => Ok(close(life, Why::Qos)),
         b"g" => Ok(close(life, Why::Gone)),
-        _ => Err(Stop::Line),
+        _ => Err(CallStop::Line),
     }
 }
 
@@ -207,7 +207,7 @@ fn close(life: u64, why: Why) -> Posting {
     Posting::Close { life, why }
 }
 
-fn accounts(book: &Book, line: &mut Line) {
+fn accounts(book: &Book, line: &mut AnswerLine) {
     for row in book.closed() {
         push_row(row, line);
     }
@@ -217,7 +217,7 @@ fn accounts(book: &Book, line: &mut Line) {
     }
 }
 
-fn push_row(row: &ChargeRow, line: &mut Line) {
+fn push_row(row: &ChargeRow, line: &mut AnswerLine) {
     let open = Open {
         life: row.life,
         ebi: row.ebi,
@@ -235,7 +235,7 @@ fn push_row(row: &ChargeRow, line: &mut Line) {
     line.debugged(&row.why);
 }
 
-fn push_open(open: &Open, line: &mut Line) {
+fn push_open(open: &Open, line: &mut AnswerLine) {
     let (ebi, qci) = (u64::from(open.ebi), u64::from(open.qci));
     line.numbers('.', &[open.life, ebi, qci, open.seq]);
     line.mark('.');
@@ -250,7 +250,7 @@ fn push_open(open: &Open, line: &mut Line) {
     );
 }
 
-fn push_moment(moment: Option<Moment>, line: &mut Line) {
+fn push_moment(moment: Option<Moment>, line: &mut AnswerLine) {
     line.mark('.');
     match moment {
         Some(Moment(at)) => line.shown(&at),
@@ -259,7 +259,7 @@ fn push_moment(moment: Option<Moment>, line: &mut Line) {
 }
 
 /// A book that is made of pieces, behind steps.
-fn pieces(alloc: Global, words: &mut Words<'_>, line: &mut Line) -> Result<(), Stop> {
+fn pieces(alloc: Global, words: &mut Words<'_>, line: &mut AnswerLine) -> Result<(), CallStop> {
     let mut given = Vec::new(alloc);
     let mut postings = Vec::new(alloc);
     for _ in 0..u64::MAX {
@@ -286,17 +286,17 @@ fn posted(
     mut book: Book,
     given: &Vec<Piece>,
     postings: &[Posting],
-    line: &mut Line,
-) -> Result<(), Stop> {
+    line: &mut AnswerLine,
+) -> Result<(), CallStop> {
     if book.pieces()? != *given {
-        return Err(Stop::Differ);
+        return Err(CallStop::Differ);
     }
     book.post(postings)?;
     accounts(&book, line);
     Ok(())
 }
 
-fn piece_of(words: &mut Words<'_>) -> Result<Piece, Stop> {
+fn piece_of(words: &mut Words<'_>) -> Result<Piece, CallStop> {
     const LAST: u64 = 0x2000_0000_0000_0000;
     Ok(Piece {
         counts: Open {
@@ -315,7 +315,7 @@ fn piece_of(words: &mut Words<'_>) -> Result<Piece, Stop> {
 }
 
 /// The next part as a moment, of which `-` is none.
-fn moment_in(words: &mut Words<'_>) -> Result<Option<Moment>, Stop> {
+fn moment_in(words: &mut Words<'_>) -> Result<Option<Moment>, CallStop> {
     match words.word() {
         b"-" => Ok(None),
         word => Ok(Some(Words::parts(word, b' ').moment()?)),

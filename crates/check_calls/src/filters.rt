@@ -1,8 +1,8 @@
 //! Traffic flow templates, and what packets fit them.
 use crate::kinds::Kind;
 use crate::line::{Words, number_of, octets_of};
-use crate::shown::Line;
-use crate::stop::Stop;
+use crate::shown::AnswerLine;
+use crate::stop::CallStop;
 use ipv4_packet::Ip4;
 use std::alloc::Global;
 use tft_codec::{
@@ -14,8 +14,8 @@ pub fn answer(
     alloc: Global,
     kind: Kind,
     words: &mut Words<'_>,
-    line: &mut Line,
-) -> Result<(), Stop> {
+    line: &mut AnswerLine,
+) -> Result<(), CallStop> {
     match kind {
         Kind::Tft => template(alloc, words, line),
         Kind::Apply => applied(alloc, words, line),
@@ -24,11 +24,11 @@ pub fn answer(
     }
 }
 
-fn template(alloc: Global, words: &mut Words<'_>, line: &mut Line) -> Result<(), Stop> {
+fn template(alloc: Global, words: &mut Words<'_>, line: &mut AnswerLine) -> Result<(), CallStop> {
     let octets = words.octets(alloc)?;
     match read(alloc, &octets) {
         Ok(template) => written(alloc, &template, line),
-        Err(TBad::NoMemory) => Err(Stop::NoMemory),
+        Err(TBad::NoMemory) => Err(CallStop::NoMemory),
         Err(bad) => {
             line.fault(&bad);
             Ok(())
@@ -37,10 +37,10 @@ fn template(alloc: Global, words: &mut Words<'_>, line: &mut Line) -> Result<(),
 }
 
 /// The template written again, of its copy.
-fn written(alloc: Global, template: &Tft, line: &mut Line) -> Result<(), Stop> {
+fn written(alloc: Global, template: &Tft, line: &mut AnswerLine) -> Result<(), CallStop> {
     let copy = template.try_clone()?;
     if copy != *template {
-        return Err(Stop::Differ);
+        return Err(CallStop::Differ);
     }
     line.word("ok");
     line.octets(&write(alloc, &copy)?);
@@ -48,7 +48,11 @@ fn written(alloc: Global, template: &Tft, line: &mut Line) -> Result<(), Stop> {
 }
 
 /// The list that templates make one behind another, and a word for each.
-pub fn filters_of(alloc: Global, templates: &[u8], line: &mut Line) -> Result<Filters, Stop> {
+pub fn filters_of(
+    alloc: Global,
+    templates: &[u8],
+    line: &mut AnswerLine,
+) -> Result<Filters, CallStop> {
     let mut list = Filters::new(alloc);
     let mut parts = Words::parts(templates, b',');
     for _ in 0..u64::MAX {
@@ -60,11 +64,16 @@ pub fn filters_of(alloc: Global, templates: &[u8], line: &mut Line) -> Result<Fi
     Ok(list)
 }
 
-fn apply_one(alloc: Global, list: &mut Filters, word: &[u8], line: &mut Line) -> Result<(), Stop> {
+fn apply_one(
+    alloc: Global,
+    list: &mut Filters,
+    word: &[u8],
+    line: &mut AnswerLine,
+) -> Result<(), CallStop> {
     let octets = octets_of(alloc, word)?;
     match read(alloc, &octets) {
         Ok(template) => apply_to(alloc, list, &template, line),
-        Err(TBad::NoMemory) => Err(Stop::NoMemory),
+        Err(TBad::NoMemory) => Err(CallStop::NoMemory),
         Err(bad) => {
             line.debugged(&bad);
             Ok(())
@@ -76,15 +85,15 @@ fn apply_to(
     alloc: Global,
     list: &mut Filters,
     template: &Tft,
-    line: &mut Line,
-) -> Result<(), Stop> {
+    line: &mut AnswerLine,
+) -> Result<(), CallStop> {
     match apply(alloc, list, template) {
         Ok(filters) => {
             *list = filters;
             line.word("ok");
             Ok(())
         }
-        Err(TftNo::NoMemory) => Err(Stop::NoMemory),
+        Err(TftNo::NoMemory) => Err(CallStop::NoMemory),
         Err(no) => {
             line.debugged(&no);
             Ok(())
@@ -92,7 +101,7 @@ fn apply_to(
     }
 }
 
-fn applied(alloc: Global, words: &mut Words<'_>, line: &mut Line) -> Result<(), Stop> {
+fn applied(alloc: Global, words: &mut Words<'_>, line: &mut AnswerLine) -> Result<(), CallStop> {
     let list = filters_of(alloc, words.word(), line)?;
     line.word("=");
     for filter in list.as_slice() {
@@ -102,17 +111,17 @@ fn applied(alloc: Global, words: &mut Words<'_>, line: &mut Line) -> Result<(), 
 }
 
 /// A filter as it is written in a template that creates it alone.
-fn entry(alloc: Global, filter: &Filter, line: &mut Line) -> Result<(), Stop> {
+fn entry(alloc: Global, filter: &Filter, line: &mut AnswerLine) -> Result<(), CallStop> {
     let one = Vec::from_array(alloc, [filter.try_clone()?])?;
-    let filters = PacketFilters::of(one).ok_or(Stop::Differ)?;
+    let filters = PacketFilters::of(one).ok_or(CallStop::Differ)?;
     let text = write(alloc, &Tft::Create(filters))?;
     line.octets(text.get(1..).unwrap_or(&[]));
     Ok(())
 }
 
-fn matched(alloc: Global, words: &mut Words<'_>, line: &mut Line) -> Result<(), Stop> {
+fn matched(alloc: Global, words: &mut Words<'_>, line: &mut AnswerLine) -> Result<(), CallStop> {
     let direction = direction_of(words.word())?;
-    let list = filters_of(alloc, words.word(), &mut Line::new(alloc))?;
+    let list = filters_of(alloc, words.word(), &mut AnswerLine::new(alloc))?;
     let octets = words.octets(alloc)?;
     match Ip4::read(&octets) {
         Ok(packet) => {
@@ -126,15 +135,15 @@ fn matched(alloc: Global, words: &mut Words<'_>, line: &mut Line) -> Result<(), 
     Ok(())
 }
 
-fn direction_of(word: &[u8]) -> Result<Direction, Stop> {
+fn direction_of(word: &[u8]) -> Result<Direction, CallStop> {
     match word {
         b"up" => Ok(Direction::Up),
         b"down" => Ok(Direction::Down),
-        _ => Err(Stop::Line),
+        _ => Err(CallStop::Line),
     }
 }
 
-fn chosen(alloc: Global, words: &mut Words<'_>, line: &mut Line) -> Result<(), Stop> {
+fn chosen(alloc: Global, words: &mut Words<'_>, line: &mut AnswerLine) -> Result<(), CallStop> {
     let octets = words.octets(alloc)?;
     match Ip4::read(&octets) {
         Ok(packet) => {
@@ -146,7 +155,7 @@ fn chosen(alloc: Global, words: &mut Words<'_>, line: &mut Line) -> Result<(), S
     Ok(())
 }
 
-fn bearers_of(alloc: Global, words: &mut Words<'_>) -> Result<Vec<BearerFilters>, Stop> {
+fn bearers_of(alloc: Global, words: &mut Words<'_>) -> Result<Vec<BearerFilters>, CallStop> {
     let mut bearers = Vec::new(alloc);
     for _ in 0..u64::MAX {
         let Some(word) = words.next_word() else {
@@ -160,10 +169,10 @@ fn bearers_of(alloc: Global, words: &mut Words<'_>) -> Result<Vec<BearerFilters>
 }
 
 /// The list that templates make, of which `.` is none.
-fn filters_in(alloc: Global, templates: &[u8]) -> Result<Filters, Stop> {
+fn filters_in(alloc: Global, templates: &[u8]) -> Result<Filters, CallStop> {
     if templates == b".".as_slice() {
         Ok(Filters::new(alloc))
     } else {
-        filters_of(alloc, templates, &mut Line::new(alloc))
+        filters_of(alloc, templates, &mut AnswerLine::new(alloc))
     }
 }

@@ -1,5 +1,5 @@
 //! The kinds of calls, and what else a word names.
-use crate::stop::Stop;
+use crate::stop::CallStop;
 
 /// Which call a line is, by its first word.
 #[derive(Clone, Copy)]
@@ -81,16 +81,16 @@ const KINDS: [(&str, Kind); 36] = [
     ("constants", Kind::Constants),
 ];
 
-pub fn kind_of(word: &[u8]) -> Result<Kind, Stop> {
+pub fn kind_of(word: &[u8]) -> Result<Kind, CallStop> {
     named(&KINDS, word)
 }
 
 /// What stands behind a name in a table.
-pub fn named<T: Copy>(table: &[(&str, T)], word: &[u8]) -> Result<T, Stop> {
+pub fn named<T: Copy>(table: &[(&str, T)], word: &[u8]) -> Result<T, CallStop> {
     for (name, value) in table {
         if name.as_bytes() == word {
             return Ok(*value);
         }
     }
-    Err(Stop::Line)
+    Err(CallStop::Line)
 }

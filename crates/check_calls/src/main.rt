@@ -1,5 +1,6 @@
 //! Reads calls of the leaf libraries, a line each, and answers each with a line. Octets are hexadecimal, in either
-//! case, `-` is none. A line that is no call is answered `no call`.
+//! case, `-` is none. A line that is no call is answered `no call`. Behind these stand what
+//! rows of lines, schedules and states are, and which lines of reports are entries (`data/`).
 //!
 //! | Line | Answer |
 //! |---|---|
@@ -43,34 +44,41 @@
 
 mod constants;
 mod counting;
+mod entries;
 mod filters;
 mod kinds;
 mod line;
+mod lines;
 mod messages;
 mod numbers;
 mod packets;
+mod plans;
 mod reasons;
+mod schedule_case;
+mod schedule_telling;
+mod schedules;
 mod shown;
+mod states;
 mod stop;
 mod texts;
 
 use kinds::{Kind, kind_of};
 use line::Words;
-use shown::Line;
+use shown::AnswerLine;
 use std::alloc::{AllocError, Global};
 use std::io::{self, Read, Write};
-use stop::Stop;
+use stop::CallStop;
 
 /// The answer to a call.
-fn answer(alloc: Global, call: &[u8]) -> Result<String, Stop> {
+fn answer(alloc: Global, call: &[u8]) -> Result<String, CallStop> {
     let mut words = Words::of(call);
-    let mut line = Line::new(alloc);
+    let mut line = AnswerLine::new(alloc);
     call_of(alloc, &mut words, &mut line)?;
     line.end()
 }
 
 /// Answers a call by its first word: each file has its kinds.
-fn call_of(alloc: Global, words: &mut Words<'_>, line: &mut Line) -> Result<(), Stop> {
+fn call_of(alloc: Global, words: &mut Words<'_>, line: &mut AnswerLine) -> Result<(), CallStop> {
     let kind = kind_of(words.word())?;
     match kind {
         Kind::Gtpv2 | Kind::First | Kind::Contexts | Kind::Ie | Kind::Value | Kind::Ies => {
@@ -116,5 +124,9 @@ fn main(rt: HostRuntime) -> io::Result<()> {
     rt.reader().read_to_end(&mut calls)?;
     let lines = calls.as_slice();
     let told = answers(alloc, lines.strip_suffix(b"\n").unwrap_or(lines))?;
-    io::writer(&rt).write_all(told.as_slice())
+    io::writer(&rt).write_all(told.as_slice())?;
+    lines::tell(&rt)?;
+    schedules::tell(&rt)?;
+    states::tell(&rt)?;
+    entries::tell(&rt)
 }

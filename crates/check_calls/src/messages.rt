@@ -1,8 +1,8 @@
 //! GTPv2-C: messages and information elements.
 use crate::kinds::Kind;
 use crate::line::Words;
-use crate::shown::Line;
-use crate::stop::Stop;
+use crate::shown::AnswerLine;
+use crate::stop::CallStop;
 use gtpv2_ie::{Ie, IeBad, IeKind, IeValue, read_ies, read_value, write_ie};
 use gtpv2_msg::{CBad, Msg, read, refusal, write};
 use std::alloc::Global;
@@ -11,8 +11,8 @@ pub fn answer(
     alloc: Global,
     kind: Kind,
     words: &mut Words<'_>,
-    line: &mut Line,
-) -> Result<(), Stop> {
+    line: &mut AnswerLine,
+) -> Result<(), CallStop> {
     match kind {
         Kind::Gtpv2 => message(alloc, words, line),
         Kind::First => first(alloc, words, line),
@@ -23,14 +23,14 @@ pub fn answer(
     }
 }
 
-fn message(alloc: Global, words: &mut Words<'_>, line: &mut Line) -> Result<(), Stop> {
+fn message(alloc: Global, words: &mut Words<'_>, line: &mut AnswerLine) -> Result<(), CallStop> {
     told(alloc, &words.octets(alloc)?, line)
 }
 
-fn told(alloc: Global, octets: &[u8], line: &mut Line) -> Result<(), Stop> {
+fn told(alloc: Global, octets: &[u8], line: &mut AnswerLine) -> Result<(), CallStop> {
     match read(alloc, octets) {
         Ok(message) => written(alloc, &message, line),
-        Err(CBad::NoMemory) => Err(Stop::NoMemory),
+        Err(CBad::NoMemory) => Err(CallStop::NoMemory),
         Err(bad) => {
             let reply = refusal(alloc, octets, &bad)?;
             fault(bad, line);
@@ -41,17 +41,17 @@ fn told(alloc: Global, octets: &[u8], line: &mut Line) -> Result<(), Stop> {
 }
 
 /// The message written again, of its copy.
-fn written(alloc: Global, message: &Msg, line: &mut Line) -> Result<(), Stop> {
+fn written(alloc: Global, message: &Msg, line: &mut AnswerLine) -> Result<(), CallStop> {
     let copy = message.try_clone()?;
     if copy != *message {
-        return Err(Stop::Differ);
+        return Err(CallStop::Differ);
     }
     line.word("ok");
     line.octets(&write(alloc, &copy)?);
     Ok(())
 }
 
-fn fault(bad: CBad, line: &mut Line) {
+fn fault(bad: CBad, line: &mut AnswerLine) {
     match bad {
         CBad::Missing { kind, instance } => {
             line.word("err Missing");
@@ -67,7 +67,7 @@ fn fault(bad: CBad, line: &mut Line) {
     }
 }
 
-fn answered(reply: Option<Vec<u8>>, line: &mut Line) {
+fn answered(reply: Option<Vec<u8>>, line: &mut AnswerLine) {
     match reply {
         Some(reply) => line.octets(&reply),
         None => line.octets(&[]),
@@ -75,31 +75,31 @@ fn answered(reply: Option<Vec<u8>>, line: &mut Line) {
 }
 
 /// The message that the next word is.
-fn message_of(alloc: Global, words: &mut Words<'_>) -> Result<Msg, Stop> {
+fn message_of(alloc: Global, words: &mut Words<'_>) -> Result<Msg, CallStop> {
     let octets = words.octets(alloc)?;
     match read(alloc, &octets) {
         Ok(message) => Ok(message),
-        Err(CBad::NoMemory) => Err(Stop::NoMemory),
-        Err(_) => Err(Stop::Line),
+        Err(CBad::NoMemory) => Err(CallStop::NoMemory),
+        Err(_) => Err(CallStop::Line),
     }
 }
 
-fn first(alloc: Global, words: &mut Words<'_>, line: &mut Line) -> Result<(), Stop> {
-    let kind = IeKind::from_octet(words.octet()?).ok_or(Stop::Line)?;
+fn first(alloc: Global, words: &mut Words<'_>, line: &mut AnswerLine) -> Result<(), CallStop> {
+    let kind = IeKind::from_octet(words.octet()?).ok_or(CallStop::Line)?;
     let instance = words.octet()?;
     let message = message_of(alloc, words)?;
     printed(message.first(kind, instance), line);
     Ok(())
 }
 
-fn printed(value: Option<&IeValue>, line: &mut Line) {
+fn printed(value: Option<&IeValue>, line: &mut AnswerLine) {
     match value {
         Some(value) => line.debugged(value),
         None => line.word("none"),
     }
 }
 
-fn contexts(alloc: Global, words: &mut Words<'_>, line: &mut Line) -> Result<(), Stop> {
+fn contexts(alloc: Global, words: &mut Words<'_>, line: &mut AnswerLine) -> Result<(), CallStop> {
     let message = message_of(alloc, words)?;
     line.word("ok");
     for context in message.contexts() {
@@ -108,12 +108,12 @@ fn contexts(alloc: Global, words: &mut Words<'_>, line: &mut Line) -> Result<(),
     Ok(())
 }
 
-fn element(alloc: Global, words: &mut Words<'_>, line: &mut Line) -> Result<(), Stop> {
+fn element(alloc: Global, words: &mut Words<'_>, line: &mut AnswerLine) -> Result<(), CallStop> {
     let kind = words.octet()?;
     let instance = words.number(15)? as u8;
     let octets = words.octets(alloc)?;
     if octets.len() > 0xffff {
-        return Err(Stop::Line);
+        return Err(CallStop::Line);
     }
     match read_value(alloc, kind, &octets)? {
         Some(value) => element_written(alloc, kind, &Ie { instance, value }, line),
@@ -125,17 +125,22 @@ fn element(alloc: Global, words: &mut Words<'_>, line: &mut Line) -> Result<(), 
 }
 
 /// The element written again, of its copy.
-fn element_written(alloc: Global, kind: u8, element: &Ie, line: &mut Line) -> Result<(), Stop> {
+fn element_written(
+    alloc: Global,
+    kind: u8,
+    element: &Ie,
+    line: &mut AnswerLine,
+) -> Result<(), CallStop> {
     let copy = element.try_clone()?;
     if copy != *element || copy.value.kind().octet() != kind {
-        return Err(Stop::Differ);
+        return Err(CallStop::Differ);
     }
     line.word("ok");
     line.octets(&write_ie(alloc, &copy)?);
     Ok(())
 }
 
-fn value(alloc: Global, words: &mut Words<'_>, line: &mut Line) -> Result<(), Stop> {
+fn value(alloc: Global, words: &mut Words<'_>, line: &mut AnswerLine) -> Result<(), CallStop> {
     let kind = words.octet()?;
     let octets = words.octets(alloc)?;
     let value = read_value(alloc, kind, &octets)?;
@@ -143,7 +148,7 @@ fn value(alloc: Global, words: &mut Words<'_>, line: &mut Line) -> Result<(), St
     Ok(())
 }
 
-fn elements(alloc: Global, words: &mut Words<'_>, line: &mut Line) -> Result<(), Stop> {
+fn elements(alloc: Global, words: &mut Words<'_>, line: &mut AnswerLine) -> Result<(), CallStop> {
     let octets = words.octets(alloc)?;
     match read_ies(alloc, &octets) {
         Ok(places) => {
@@ -155,7 +160,7 @@ fn elements(alloc: Global, words: &mut Words<'_>, line: &mut Line) -> Result<(),
             }
             Ok(())
         }
-        Err(IeBad::NoMemory) => Err(Stop::NoMemory),
+        Err(IeBad::NoMemory) => Err(CallStop::NoMemory),
         Err(bad) => {
             line.fault(&bad);
             Ok(())

@@ -1,8 +1,8 @@
 //! Numbers of octets, slots and what follows from them, and the address book.
 use crate::kinds::Kind;
 use crate::line::{Words, number_of};
-use crate::shown::Line;
-use crate::stop::Stop;
+use crate::shown::AnswerLine;
+use crate::stop::CallStop;
 use address_book::{AddressBook, AdmitNo};
 use pc_base::{
     Addr4, Imsi, LAST_BEARER, LAST_SLOT, Slot, Teid, TeidUse, addr_of, slot_of_addr, slot_of_teid,
@@ -15,8 +15,8 @@ pub fn answer(
     alloc: Global,
     kind: Kind,
     words: &mut Words<'_>,
-    line: &mut Line,
-) -> Result<(), Stop> {
+    line: &mut AnswerLine,
+) -> Result<(), CallStop> {
     match kind {
         Kind::At => numbers_at(alloc, words, line),
         Kind::Octets => octets(words, line),
@@ -26,11 +26,11 @@ pub fn answer(
         Kind::Imsi => imsi(alloc, words, line),
         Kind::Printed => printed(words, line),
         Kind::Admit => admitted(alloc, words, line),
-        _ => Err(Stop::Line),
+        _ => Err(CallStop::Line),
     }
 }
 
-fn numbers_at(alloc: Global, words: &mut Words<'_>, line: &mut Line) -> Result<(), Stop> {
+fn numbers_at(alloc: Global, words: &mut Words<'_>, line: &mut AnswerLine) -> Result<(), CallStop> {
     let at = words.number(u64::MAX)? as usize;
     let octets = words.octets(alloc)?;
     line.shown_or(&be16(&octets, at), "-");
@@ -40,7 +40,7 @@ fn numbers_at(alloc: Global, words: &mut Words<'_>, line: &mut Line) -> Result<(
     Ok(())
 }
 
-fn octets(words: &mut Words<'_>, line: &mut Line) -> Result<(), Stop> {
+fn octets(words: &mut Words<'_>, line: &mut AnswerLine) -> Result<(), CallStop> {
     let number = words.number(u64::MAX)?;
     let long = (number % 0x1_0000_0000) as u32;
     line.octets(&be16_octets((number % 0x1_0000) as u16));
@@ -50,10 +50,10 @@ fn octets(words: &mut Words<'_>, line: &mut Line) -> Result<(), Stop> {
     Ok(())
 }
 
-fn slot(words: &mut Words<'_>, line: &mut Line) -> Result<(), Stop> {
+fn slot(words: &mut Words<'_>, line: &mut AnswerLine) -> Result<(), CallStop> {
     let number = words.number(u64::from(LAST_SLOT))? as u32;
     if number > LAST_SLOT {
-        return Err(Stop::Line);
+        return Err(CallStop::Line);
     }
     let slot = Slot(number);
     line.shown(&addr_of(slot).0);
@@ -64,7 +64,7 @@ fn slot(words: &mut Words<'_>, line: &mut Line) -> Result<(), Stop> {
     Ok(())
 }
 
-fn teid(words: &mut Words<'_>, line: &mut Line) -> Result<(), Stop> {
+fn teid(words: &mut Words<'_>, line: &mut AnswerLine) -> Result<(), CallStop> {
     match slot_of_teid(Teid(words.long()?)) {
         Some((slot, usage)) => {
             line.shown(&slot.0);
@@ -78,7 +78,7 @@ fn teid(words: &mut Words<'_>, line: &mut Line) -> Result<(), Stop> {
     Ok(())
 }
 
-fn address(words: &mut Words<'_>, line: &mut Line) -> Result<(), Stop> {
+fn address(words: &mut Words<'_>, line: &mut AnswerLine) -> Result<(), CallStop> {
     match slot_of_addr(Addr4(words.long()?)) {
         Some(slot) => line.shown(&slot.0),
         None => line.word("none"),
@@ -86,12 +86,12 @@ fn address(words: &mut Words<'_>, line: &mut Line) -> Result<(), Stop> {
     Ok(())
 }
 
-fn imsi(alloc: Global, words: &mut Words<'_>, line: &mut Line) -> Result<(), Stop> {
+fn imsi(alloc: Global, words: &mut Words<'_>, line: &mut AnswerLine) -> Result<(), CallStop> {
     let digits = words.octets(alloc)?;
     match Imsi::of(&digits) {
         Some(imsi) => {
             if imsi.digits() != digits.as_slice() {
-                return Err(Stop::Differ);
+                return Err(CallStop::Differ);
             }
             line.shown(&imsi);
         }
@@ -100,7 +100,7 @@ fn imsi(alloc: Global, words: &mut Words<'_>, line: &mut Line) -> Result<(), Sto
     Ok(())
 }
 
-fn printed(words: &mut Words<'_>, line: &mut Line) -> Result<(), Stop> {
+fn printed(words: &mut Words<'_>, line: &mut AnswerLine) -> Result<(), CallStop> {
     let moment = words.moment()?;
     let low = (moment.0 % 0x1_0000_0000) as u32;
     line.shown(&moment);
@@ -110,7 +110,7 @@ fn printed(words: &mut Words<'_>, line: &mut Line) -> Result<(), Stop> {
 }
 
 /// What a new address book answers.
-fn admitted(alloc: Global, words: &mut Words<'_>, line: &mut Line) -> Result<(), Stop> {
+fn admitted(alloc: Global, words: &mut Words<'_>, line: &mut AnswerLine) -> Result<(), CallStop> {
     let mut book = AddressBook::new(alloc);
     for _ in 0..u64::MAX {
         let Some(word) = words.next_word() else {
@@ -126,8 +126,8 @@ fn admission(
     alloc: Global,
     book: &mut AddressBook,
     step: &[u8],
-    line: &mut Line,
-) -> Result<(), Stop> {
+    line: &mut AnswerLine,
+) -> Result<(), CallStop> {
     match step.split_first() {
         Some((b'*', count)) => many(alloc, book, number_of(count, 100_000)?, line),
         Some((b'?', digits)) => found(book, digits, line),
@@ -135,20 +135,20 @@ fn admission(
     }
 }
 
-fn one(book: &mut AddressBook, digits: &[u8], line: &mut Line) -> Result<(), Stop> {
+fn one(book: &mut AddressBook, digits: &[u8], line: &mut AnswerLine) -> Result<(), CallStop> {
     match book.admit(imsi_of(digits)?) {
         Ok(slot) => line.shown(&slot.0),
-        Err(AdmitNo::NoMemory) => return Err(Stop::NoMemory),
+        Err(AdmitNo::NoMemory) => return Err(CallStop::NoMemory),
         Err(no) => line.shown(&format_args!("{no:?} ({no})")),
     }
     Ok(())
 }
 
-fn imsi_of(digits: &[u8]) -> Result<Imsi, Stop> {
-    Imsi::of(digits).ok_or(Stop::Line)
+fn imsi_of(digits: &[u8]) -> Result<Imsi, CallStop> {
+    Imsi::of(digits).ok_or(CallStop::Line)
 }
 
-fn found(book: &AddressBook, digits: &[u8], line: &mut Line) -> Result<(), Stop> {
+fn found(book: &AddressBook, digits: &[u8], line: &mut AnswerLine) -> Result<(), CallStop> {
     match book.slot_of_imsi(&imsi_of(digits)?) {
         Some(slot) => line.shown(&slot.0),
         None => line.word("-"),
@@ -157,13 +157,18 @@ fn found(book: &AddressBook, digits: &[u8], line: &mut Line) -> Result<(), Stop>
 }
 
 /// How many of so many IMSIs get the slot of their number.
-fn many(alloc: Global, book: &mut AddressBook, count: u64, line: &mut Line) -> Result<(), Stop> {
+fn many(
+    alloc: Global,
+    book: &mut AddressBook,
+    count: u64,
+    line: &mut AnswerLine,
+) -> Result<(), CallStop> {
     let mut right: u64 = 0;
     for number in 0..count {
         let text = format!(in alloc; "00101{number:010}")?;
         match book.admit(imsi_of(text.as_bytes())?) {
             Ok(slot) if u64::from(slot.0) == number => right = right.saturating_add(1),
-            Err(AdmitNo::NoMemory) => return Err(Stop::NoMemory),
+            Err(AdmitNo::NoMemory) => return Err(CallStop::NoMemory),
             _ => {}
         }
     }

@@ -1,8 +1,8 @@
 //! GTP-U messages, and IPv4 packets.
 use crate::kinds::Kind;
 use crate::line::Words;
-use crate::shown::Line;
-use crate::stop::Stop;
+use crate::shown::AnswerLine;
+use crate::stop::CallStop;
 use gtpu_codec::{GtpU, gpdu_head, read, write, write_gpdu};
 use ipv4_packet::Ip4;
 use pc_base::{Addr4, Effect, Fate, Moment, Octets, Outcome, Packet, Reply, Teid, Verdict, Way};
@@ -12,8 +12,8 @@ pub fn answer(
     alloc: Global,
     kind: Kind,
     words: &mut Words<'_>,
-    line: &mut Line,
-) -> Result<(), Stop> {
+    line: &mut AnswerLine,
+) -> Result<(), CallStop> {
     match kind {
         Kind::Gtpu => message(alloc, words, line),
         Kind::Send => sent(alloc, words, line),
@@ -23,7 +23,7 @@ pub fn answer(
     }
 }
 
-fn message(alloc: Global, words: &mut Words<'_>, line: &mut Line) -> Result<(), Stop> {
+fn message(alloc: Global, words: &mut Words<'_>, line: &mut AnswerLine) -> Result<(), CallStop> {
     let octets = words.octets(alloc)?;
     match read(&octets) {
         Ok((head, body)) => {
@@ -38,7 +38,7 @@ fn message(alloc: Global, words: &mut Words<'_>, line: &mut Line) -> Result<(), 
     Ok(())
 }
 
-fn sent(alloc: Global, words: &mut Words<'_>, line: &mut Line) -> Result<(), Stop> {
+fn sent(alloc: Global, words: &mut Words<'_>, line: &mut AnswerLine) -> Result<(), CallStop> {
     let message = match words.word() {
         b"echo" => GtpU::EchoRequest {
             seq: words.short()?,
@@ -55,20 +55,25 @@ fn sent(alloc: Global, words: &mut Words<'_>, line: &mut Line) -> Result<(), Sto
             teid: Teid(words.long()?),
         },
         b"gpdu" => return gpdu(alloc, Teid(words.long()?), words.octets(alloc)?, line),
-        _ => return Err(Stop::Line),
+        _ => return Err(CallStop::Line),
     };
     let copy = message.try_clone()?;
     if copy != message {
-        return Err(Stop::Differ);
+        return Err(CallStop::Differ);
     }
     line.octets(write(alloc, &copy)?.as_slice());
     Ok(())
 }
 
 /// A G-PDU, as it is written in three ways.
-fn gpdu(alloc: Global, teid: Teid, payload: Vec<u8>, line: &mut Line) -> Result<(), Stop> {
+fn gpdu(
+    alloc: Global,
+    teid: Teid,
+    payload: Vec<u8>,
+    line: &mut AnswerLine,
+) -> Result<(), CallStop> {
     if payload.len() > 0xffff {
-        return Err(Stop::Line);
+        return Err(CallStop::Line);
     }
     let mut parts = Vec::from_slice(alloc, &gpdu_head(teid, payload.len() as u16))?;
     parts.extend_from_slice(&payload)?;
@@ -76,13 +81,13 @@ fn gpdu(alloc: Global, teid: Teid, payload: Vec<u8>, line: &mut Line) -> Result<
     let payload = Octets::of(payload);
     let whole = write(alloc, &GtpU::Gpdu { teid, payload })?;
     if alone != whole || parts.as_slice() != whole.as_slice() {
-        return Err(Stop::Differ);
+        return Err(CallStop::Differ);
     }
     line.octets(whole.as_slice());
     Ok(())
 }
 
-fn packet(alloc: Global, words: &mut Words<'_>, line: &mut Line) -> Result<(), Stop> {
+fn packet(alloc: Global, words: &mut Words<'_>, line: &mut AnswerLine) -> Result<(), CallStop> {
     let octets = words.octets(alloc)?;
     match Ip4::read(&octets) {
         Ok(packet) => fields(&packet, line),
@@ -91,7 +96,7 @@ fn packet(alloc: Global, words: &mut Words<'_>, line: &mut Line) -> Result<(), S
     Ok(())
 }
 
-fn fields(packet: &Ip4<'_>, line: &mut Line) {
+fn fields(packet: &Ip4<'_>, line: &mut AnswerLine) {
     line.word("ok");
     line.shown(&packet.tos());
     line.shown(&packet.protocol());
@@ -109,13 +114,13 @@ fn fields(packet: &Ip4<'_>, line: &mut Line) {
 }
 
 /// A packet as its copy prints.
-fn printed(alloc: Global, words: &mut Words<'_>, line: &mut Line) -> Result<(), Stop> {
+fn printed(alloc: Global, words: &mut Words<'_>, line: &mut AnswerLine) -> Result<(), CallStop> {
     let octets = words.octets(alloc)?;
     match Ip4::read(&octets) {
         Ok(packet) => {
             let copy = packet.copied();
             if copy != packet {
-                return Err(Stop::Differ);
+                return Err(CallStop::Differ);
             }
             line.debugged(&copy);
         }
@@ -125,7 +130,7 @@ fn printed(alloc: Global, words: &mut Words<'_>, line: &mut Line) -> Result<(), 
 }
 
 /// How many values with these octets equal their copy.
-fn copies(alloc: Global, words: &mut Words<'_>, line: &mut Line) -> Result<(), Stop> {
+fn copies(alloc: Global, words: &mut Words<'_>, line: &mut AnswerLine) -> Result<(), CallStop> {
     let octets = Octets::of(words.octets(alloc)?);
     let mut equal: u8 = 0;
     if packet_copies(&octets)? && verdict_copies(&octets)? {
@@ -142,7 +147,7 @@ fn copies(alloc: Global, words: &mut Words<'_>, line: &mut Line) -> Result<(), S
     Ok(())
 }
 
-fn packet_copies(octets: &Octets) -> Result<bool, Stop> {
+fn packet_copies(octets: &Octets) -> Result<bool, CallStop> {
     let packet = Packet {
         number: 1,
         moment: Moment(2),
@@ -152,7 +157,7 @@ fn packet_copies(octets: &Octets) -> Result<bool, Stop> {
     Ok(packet.try_clone()? == packet)
 }
 
-fn verdict_copies(octets: &Octets) -> Result<bool, Stop> {
+fn verdict_copies(octets: &Octets) -> Result<bool, CallStop> {
     let verdict = Verdict::Held {
         life: 3,
         message: Some(octets.try_clone()?),
@@ -160,7 +165,7 @@ fn verdict_copies(octets: &Octets) -> Result<bool, Stop> {
     Ok(verdict.try_clone()? == verdict)
 }
 
-fn reply_copies(octets: &Octets) -> Result<bool, Stop> {
+fn reply_copies(octets: &Octets) -> Result<bool, CallStop> {
     let reply = Reply {
         outcome: Outcome::Again,
         message: Some(octets.try_clone()?),
@@ -168,7 +173,7 @@ fn reply_copies(octets: &Octets) -> Result<bool, Stop> {
     Ok(reply.try_clone()? == reply)
 }
 
-fn effect_copies(octets: &Octets) -> Result<bool, Stop> {
+fn effect_copies(octets: &Octets) -> Result<bool, CallStop> {
     let effect = Effect::Fate {
         packet: 1,
         fate: fate_of(octets)?,
@@ -177,7 +182,7 @@ fn effect_copies(octets: &Octets) -> Result<bool, Stop> {
 }
 
 /// The copy of a packet's fate.
-fn fate_of(octets: &Octets) -> Result<Fate, Stop> {
+fn fate_of(octets: &Octets) -> Result<Fate, CallStop> {
     let fate = Fate::Down {
         life: 3,
         peer: Addr4(4),

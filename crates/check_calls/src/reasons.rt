@@ -2,8 +2,8 @@
 use crate::filters::filters_of;
 use crate::kinds::named;
 use crate::line::{Words, octets_of};
-use crate::shown::Line;
-use crate::stop::Stop;
+use crate::shown::AnswerLine;
+use crate::stop::CallStop;
 use gtpv2_ie::read_ies;
 use ipv4_packet::Ip4;
 use std::alloc::Global;
@@ -27,7 +27,7 @@ const REFUSED: [(&str, Refused); 5] = [
     ("tft", Refused::Tft),
 ];
 
-pub fn answer(alloc: Global, words: &mut Words<'_>, line: &mut Line) -> Result<(), Stop> {
+pub fn answer(alloc: Global, words: &mut Words<'_>, line: &mut AnswerLine) -> Result<(), CallStop> {
     let kind = words.word();
     if kind == b"filters".as_slice() {
         return why_not_applied(alloc, words.word(), line);
@@ -38,7 +38,7 @@ pub fn answer(alloc: Global, words: &mut Words<'_>, line: &mut Line) -> Result<(
     Ok(())
 }
 
-fn why(alloc: Global, refused: Refused, octets: &[u8], line: &mut Line) {
+fn why(alloc: Global, refused: Refused, octets: &[u8], line: &mut AnswerLine) {
     match refused {
         Refused::Gtpu => why_no_message(octets, line),
         Refused::Gtpv2 => line.shown_or(&gtpv2_msg::read(alloc, octets).err(), "none"),
@@ -48,14 +48,14 @@ fn why(alloc: Global, refused: Refused, octets: &[u8], line: &mut Line) {
     }
 }
 
-fn why_no_message(octets: &[u8], line: &mut Line) {
+fn why_no_message(octets: &[u8], line: &mut AnswerLine) {
     match gtpu_codec::read(octets) {
         Ok(_) => line.word("none"),
         Err(bad) => line.shown(&bad),
     }
 }
 
-fn why_no_packet(octets: &[u8], line: &mut Line) {
+fn why_no_packet(octets: &[u8], line: &mut AnswerLine) {
     match Ip4::read(octets) {
         Ok(_) => line.word("none"),
         Err(bad) => line.shown(&bad),
@@ -63,11 +63,11 @@ fn why_no_packet(octets: &[u8], line: &mut Line) {
 }
 
 /// Why the second of two templates isn't applied to the filters of the first.
-fn why_not_applied(alloc: Global, templates: &[u8], line: &mut Line) -> Result<(), Stop> {
+fn why_not_applied(alloc: Global, templates: &[u8], line: &mut AnswerLine) -> Result<(), CallStop> {
     let mut parts = Words::parts(templates, b',');
-    let list = filters_of(alloc, parts.word(), &mut Line::new(alloc))?;
+    let list = filters_of(alloc, parts.word(), &mut AnswerLine::new(alloc))?;
     let octets = octets_of(alloc, parts.word())?;
-    let template = tft_codec::read(alloc, &octets).ok().ok_or(Stop::Line)?;
+    let template = tft_codec::read(alloc, &octets).ok().ok_or(CallStop::Line)?;
     line.shown_or(&apply(alloc, &list, &template).err(), "none");
     Ok(())
 }

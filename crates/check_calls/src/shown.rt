@@ -1,30 +1,30 @@
 //! How values print in an answer.
-use crate::stop::Stop;
+use crate::stop::CallStop;
 use std::alloc::Global;
 use std::fmt::{Debug, Display, Write};
 
 /// An answer as it is written, its fields parted by a space. Where memory is refused, `end` says so: what writes a
 /// field needs no `?`.
 #[derive(Drop)]
-pub struct Line {
+pub struct AnswerLine {
     text: String,
     /// Whether a space comes before the next field.
     apart: bool,
     refused: bool,
 }
 
-impl Line {
-    pub fn new(alloc: Global) -> Line {
-        Line {
+impl AnswerLine {
+    pub fn new(alloc: Global) -> AnswerLine {
+        AnswerLine {
             text: String::new(alloc),
             apart: false,
             refused: false,
         }
     }
 
-    pub fn end(self) -> Result<String, Stop> {
+    pub fn end(self) -> Result<String, CallStop> {
         if self.refused {
-            Err(Stop::NoMemory)
+            Err(CallStop::NoMemory)
         } else {
             Ok(self.text)
         }

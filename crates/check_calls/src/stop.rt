@@ -3,7 +3,7 @@ use std::alloc::{AllocError, AllocFailed};
 
 /// Why a line has no answer.
 #[derive(Clone, Copy, Debug)]
-pub enum Stop {
+pub enum CallStop {
     /// It is no call.
     Line,
     /// Two calls that are to give the same give two things.
@@ -11,24 +11,24 @@ pub enum Stop {
     NoMemory,
 }
 
-impl Stop {
+impl CallStop {
     pub fn word(self) -> &'static str {
         match self {
-            Stop::Line => "no call",
-            Stop::Differ => "two answers",
-            Stop::NoMemory => "no memory",
+            CallStop::Line => "no call",
+            CallStop::Differ => "two answers",
+            CallStop::NoMemory => "no memory",
         }
     }
 }
 
-impl From<AllocError> for Stop {
-    fn from(_error: AllocError) -> Stop {
-        Stop::NoMemory
+impl From<AllocError> for CallStop {
+    fn from(_error: AllocError) -> CallStop {
+        CallStop::NoMemory
     }
 }
 
-impl<T: Drop> From<AllocFailed<T>> for Stop {
-    fn from(_error: AllocFailed<T>) -> Stop {
-        Stop::NoMemory
+impl<T: Drop> From<AllocFailed<T>> for CallStop {
+    fn from(_error: AllocFailed<T>) -> CallStop {
+        CallStop::NoMemory
     }
 }

@@ -1,8 +1,8 @@
 //! Fields of a text.
 use crate::kinds::Kind;
 use crate::line::Words;
-use crate::shown::Line;
-use crate::stop::Stop;
+use crate::shown::AnswerLine;
+use crate::stop::CallStop;
 use std::alloc::Global;
 use text_fields::{
     Text, has_empty_field, next_piece, read_address, read_lower_octets, read_number, read_octets,
@@ -12,8 +12,8 @@ pub fn answer(
     alloc: Global,
     kind: Kind,
     words: &mut Words<'_>,
-    line: &mut Line,
-) -> Result<(), Stop> {
+    line: &mut AnswerLine,
+) -> Result<(), CallStop> {
     match kind {
         Kind::Number => number(alloc, words, line),
         Kind::Dotted => dotted(alloc, words, line),
@@ -24,39 +24,43 @@ pub fn answer(
     }
 }
 
-fn number(alloc: Global, words: &mut Words<'_>, line: &mut Line) -> Result<(), Stop> {
+fn number(alloc: Global, words: &mut Words<'_>, line: &mut AnswerLine) -> Result<(), CallStop> {
     let (least, last) = (words.number(u64::MAX)?, words.number(u64::MAX)?);
     let text = words.octets(alloc)?;
     line.shown_or(&read_number(&text, least, last), "none");
     Ok(())
 }
 
-fn dotted(alloc: Global, words: &mut Words<'_>, line: &mut Line) -> Result<(), Stop> {
+fn dotted(alloc: Global, words: &mut Words<'_>, line: &mut AnswerLine) -> Result<(), CallStop> {
     let text = words.octets(alloc)?;
     line.shown_or(&read_address(&text), "none");
     Ok(())
 }
 
-fn octets(alloc: Global, words: &mut Words<'_>, line: &mut Line) -> Result<(), Stop> {
+fn octets(alloc: Global, words: &mut Words<'_>, line: &mut AnswerLine) -> Result<(), CallStop> {
     let text = words.octets(alloc)?;
     shown(read_octets(alloc, &text)?, line);
     Ok(())
 }
 
-fn lower_octets(alloc: Global, words: &mut Words<'_>, line: &mut Line) -> Result<(), Stop> {
+fn lower_octets(
+    alloc: Global,
+    words: &mut Words<'_>,
+    line: &mut AnswerLine,
+) -> Result<(), CallStop> {
     let text = words.octets(alloc)?;
     shown(read_lower_octets(alloc, &text)?, line);
     Ok(())
 }
 
-fn shown(octets: Option<Vec<u8>>, line: &mut Line) {
+fn shown(octets: Option<Vec<u8>>, line: &mut AnswerLine) {
     match octets {
         Some(octets) => line.octets(&octets),
         None => line.word("none"),
     }
 }
 
-fn pieces(alloc: Global, words: &mut Words<'_>, line: &mut Line) -> Result<(), Stop> {
+fn pieces(alloc: Global, words: &mut Words<'_>, line: &mut AnswerLine) -> Result<(), CallStop> {
     let at = words.octet()?;
     let octets = words.octets(alloc)?;
     let mut left = Some(octets.as_slice());
@@ -72,7 +76,7 @@ fn pieces(alloc: Global, words: &mut Words<'_>, line: &mut Line) -> Result<(), S
     Ok(())
 }
 
-fn fields(alloc: Global, words: &mut Words<'_>, line: &mut Line) -> Result<(), Stop> {
+fn fields(alloc: Global, words: &mut Words<'_>, line: &mut AnswerLine) -> Result<(), CallStop> {
     let mut text = Text::new(alloc);
     text.push_field(words.word())?;
     text.push_number(words.number(u64::MAX)?)?;

@@ -7,7 +7,7 @@ mod lines;
 mod meeting;
 mod playing;
 
-use playing::{Played, play};
+use playing::{PlayedTrace, play};
 use std::alloc::Global;
 use std::io::{self, Read, Write};
 use std::process::ExitCode;
@@ -17,19 +17,19 @@ use text_fields::Text;
 
 /// Why a trace has no report.
 #[derive(Clone, Copy)]
-pub enum Stop {
+pub enum TraceStop {
     /// Its lines can't be read.
     Lines,
     NoMemory,
 }
 
-impl From<std::alloc::AllocError> for Stop {
-    fn from(_: std::alloc::AllocError) -> Stop {
-        Stop::NoMemory
+impl From<std::alloc::AllocError> for TraceStop {
+    fn from(_: std::alloc::AllocError) -> TraceStop {
+        TraceStop::NoMemory
     }
 }
 
-fn say(text: &mut Text, what: &[u8], holds: bool) -> Result<(), Stop> {
+fn say(text: &mut Text, what: &[u8], holds: bool) -> Result<(), TraceStop> {
     text.extend_from_slice(what)?;
     if holds {
         text.extend_from_slice(b": yes\n")?;
@@ -39,8 +39,8 @@ fn say(text: &mut Text, what: &[u8], holds: bool) -> Result<(), Stop> {
     Ok(())
 }
 
-fn told<R: Threads + Wait + Sync>(rt: &R, alloc: Global, octets: &[u8]) -> Result<Text, Stop> {
-    let played: Played = play(rt, alloc, octets)?;
+fn told<R: Threads + Wait + Sync>(rt: &R, alloc: Global, octets: &[u8]) -> Result<Text, TraceStop> {
+    let played: PlayedTrace = play(rt, alloc, octets)?;
     let mut text = Text::new(alloc);
     say(&mut text, b"audit", played.lawful)?;
     say(&mut text, b"slices met", played.met)?;
@@ -50,10 +50,10 @@ fn told<R: Threads + Wait + Sync>(rt: &R, alloc: Global, octets: &[u8]) -> Resul
 }
 
 // Why standard input couldn't be read.
-fn unread(error: &io::Error) -> Stop {
+fn unread(error: &io::Error) -> TraceStop {
     match error.kind() {
-        io::ErrorKind::OutOfMemory => Stop::NoMemory,
-        _ => Stop::Lines,
+        io::ErrorKind::OutOfMemory => TraceStop::NoMemory,
+        _ => TraceStop::Lines,
     }
 }
 
@@ -65,8 +65,8 @@ fn main(rt: HostRuntime) -> ExitCode {
     };
     let text = match played {
         Ok(text) => text,
-        Err(Stop::NoMemory) => return ExitCode::from(5),
-        Err(Stop::Lines) => return ExitCode::FAILURE,
+        Err(TraceStop::NoMemory) => return ExitCode::from(5),
+        Err(TraceStop::Lines) => return ExitCode::FAILURE,
     };
     match io::writer(&rt).write_all(text.as_slice()) {
         Ok(()) => ExitCode::SUCCESS,

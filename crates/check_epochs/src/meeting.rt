@@ -1,6 +1,6 @@
 //! A gate at which the threads of two slices wait for each other.
 use pc_base::SliceNo;
-use slice_runner::Gate;
+use slice_core::Gate;
 use std::sync::atomic::{AtomicBool, Ordering};
 use std::thread;
 

@@ -1,15 +1,15 @@
 //! A trace is played, and its report audited.
 ghost use Rattle.std.specs.Prelude.{◌≤◌, length};
 
-use crate::Stop;
-use crate::lines::{entries_of, lines_of};
+use crate::TraceStop;
+use crate::lines::{input_of, lines_of};
 use crate::meeting::Meeting;
 use at_rest::AtRest;
-use audit_reading::Setup;
-use audit_run::{Finding, finding_of};
-use front_close::{Ended, Entry};
+use audit_core::{Audited, Setup, audit};
+use front_core::{Ended, FrontEntry};
 use pc_base::{Place, SliceNo};
-use slice_runner::run_epoch;
+use pc_outside::{SureSink, SureSource};
+use slice_core::run_epoch;
 use std::alloc::{AllocError, Global};
 use std::sync::Wait;
 use std::thread::Threads;
@@ -31,10 +31,13 @@ const PATIENCE: u32 = 1_000_000;
 
 const LINGER: u32 = 100;
 
+// What an audit finds is no longer.
+const FINDING_LEN: usize = 16;
+
 /// What is told of a trace: whether its report is lawful, whether the slices' threads met, and whether packets were
 /// handled at slice 0 and at slice 1.
 #[derive(Clone, Copy)]
-pub struct Played {
+pub struct PlayedTrace {
     pub lawful: bool,
     pub met: bool,
     pub at_first: bool,
@@ -42,9 +45,9 @@ pub struct Played {
 }
 
 // Whether a packet was handled at this slice.
-fn handled_at(entries: &[Entry], slice: SliceNo) -> bool {
+fn handled_at(entries: &[FrontEntry], slice: SliceNo) -> bool {
     for entry in entries {
-        if let Entry::Judgement {
+        if let FrontEntry::Judgement {
             place: Some(Place::At(at)),
             ..
         } = entry
@@ -58,16 +61,16 @@ fn handled_at(entries: &[Entry], slice: SliceNo) -> bool {
 }
 
 // The line of an entry, with its place.
-fn push_line(report: &mut Text, entry: &Entry) -> Result<(), AllocError> {
+fn push_line(report: &mut Text, entry: &FrontEntry) -> Result<(), AllocError> {
     match entry {
-        Entry::Note { line, text } => push_note(report, *line, text.as_slice()),
-        Entry::Answer {
+        FrontEntry::Note { line, text } => push_note(report, *line, text.as_slice()),
+        FrontEntry::Answer {
             line,
             slot,
             number,
             reply,
         } => push_answer(report, *line, *slot, *number, reply),
-        Entry::Judgement {
+        FrontEntry::Judgement {
             line,
             slot,
             number,
@@ -78,12 +81,12 @@ fn push_line(report: &mut Text, entry: &Entry) -> Result<(), AllocError> {
         } => push_judged_placed(
             report, *line, *slot, *number, *commands, verdict, *place, *parked,
         ),
-        Entry::Refusal { line, slot, packet } => push_refusal(report, *line, *slot, *packet),
+        FrontEntry::Refusal { line, slot, packet } => push_refusal(report, *line, *slot, *packet),
     }
 }
 
 // Whether an audit finds that the report of an epoch is a lawful one of these lines.
-fn is_lawful(alloc: Global, lines: &[TraceLine], ended: Ended) -> Result<bool, Stop>
+fn is_lawful(alloc: Global, lines: &[TraceLine], ended: Ended) -> Result<bool, TraceStop>
     requires { length lines.now ≤ 1000000 }
 {
     let mut report = Text::new(alloc);
@@ -93,15 +96,19 @@ fn is_lawful(alloc: Global, lines: &[TraceLine], ended: Ended) -> Result<bool, S
     push_effects(&mut report, ended.epoch.effects.as_slice())?;
     push_records(&mut report, ended.epoch.rows.as_slice())?;
     push_opens(&mut report, ended.rest.subscribers.as_slice())?;
-    let entries = entries_of(alloc, report.as_slice())?;
     let setup = Setup {
         solo: false,
         slices: SLICES,
         room: ROOM,
         lane: LANE,
     };
-    let found = finding_of(alloc, &setup, lines, None, entries.as_slice())?;
-    Ok(matches!(found, Finding::Yes))
+    let mut source = SureSource::new(input_of(alloc, lines, report.as_slice())?)?;
+    let mut sink = SureSink::new(alloc, FINDING_LEN)?;
+    match audit(alloc, &setup, false, &mut source, &mut sink) {
+        Audited::Confirmed => Ok(true),
+        Audited::NoMemory => Err(TraceStop::NoMemory),
+        _ => Ok(false),
+    }
 }
 
 /// Plays the trace that these octets are.
@@ -109,7 +116,7 @@ pub fn play<R: Threads + Wait + Sync>(
     rt: &R,
     alloc: Global,
     octets: &[u8],
-) -> Result<Played, Stop> {
+) -> Result<PlayedTrace, TraceStop> {
     let lines = lines_of(alloc, octets)?;
     let taken = lines.as_slice();
     let rest = AtRest::new(alloc, SLICES, ROOM, LANE);
@@ -118,7 +125,7 @@ pub fn play<R: Threads + Wait + Sync>(
     let at_first = handled_at(ended.epoch.lines.as_slice(), SliceNo(0));
     let at_second = handled_at(ended.epoch.lines.as_slice(), SliceNo(1));
     let lawful = is_lawful(alloc, taken, ended)?;
-    Ok(Played {
+    Ok(PlayedTrace {
         lawful,
         met: gate.met(),
         at_first,

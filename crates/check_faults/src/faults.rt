@@ -23,7 +23,7 @@ const MOST_CALLS: u64 = 1_000;
 
 /// How a run ended, and what it wrote.
 #[derive(Drop)]
-struct Ended {
+struct EndedRun {
     status: Status,
     written: Vec<u8>,
 }
@@ -37,7 +37,7 @@ fn run<R: Threads + Wait + Sync>(
     piece: usize,
     failing_reads: &[u64],
     failing_writes: &[u64],
-) -> Result<Ended, AllocError> {
+) -> Result<EndedRun, AllocError> {
     let octets = Vec::from_slice(alloc, octets)?;
     let mut source = MemSource::new(octets, piece.max(1), Vec::from_slice(alloc, failing_reads)?)?;
     let mut sink = MemSink::new(
@@ -47,7 +47,7 @@ fn run<R: Threads + Wait + Sync>(
         Vec::from_slice(alloc, failing_writes)?,
     )?;
     let status = run_words(rt, alloc, words, &mut source, &mut sink);
-    Ok(Ended {
+    Ok(EndedRun {
         status,
         written: Vec::from_slice(alloc, sink.written())?,
     })
@@ -85,7 +85,7 @@ fn push_command(text: &mut String, row: &Call) -> Result<(), AllocError> {
     push_octets(row.word(3), text)
 }
 
-fn push_ended(text: &mut String, ended: &Ended) -> Result<(), AllocError> {
+fn push_ended(text: &mut String, ended: &EndedRun) -> Result<(), AllocError> {
     push_told(text, ": status ", &ended.status.code())?;
     push_told(text, ", ", &ended.written.len())?;
     text.push_str(" octets")

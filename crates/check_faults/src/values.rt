@@ -2,9 +2,9 @@
 use crate::call::Call;
 use crate::ends::push_octets;
 use crate::telling::push_told;
-use command_words::{Job, Lanes, TurnList, Turns, job};
-use entry_counts::{EntryCounts, push_summary};
+use command_words::{AskedTurns, Job, Lanes, TurnList, job};
 use pepc::Status;
+use report_lines::{EntryCounts, push_summary};
 use std::alloc::{AllocError, Global};
 use trace_lines::TraceLine;
 use trace_maker::{Draws, Maker, made_line};
@@ -89,11 +89,11 @@ fn push_lanes(text: &mut String, command: &str, lanes: Lanes) -> Result<(), Allo
     push_told(text, ", lane ", &lanes.lane)
 }
 
-fn push_turns(turns: Turns, text: &mut String) -> Result<(), AllocError> {
+fn push_turns(turns: AskedTurns, text: &mut String) -> Result<(), AllocError> {
     match turns {
-        Turns::NoTurns => text.push_str(", no turns"),
-        Turns::Listed(list) => push_list(list, text),
-        Turns::Drawn { seed, per } => {
+        AskedTurns::NoTurns => text.push_str(", no turns"),
+        AskedTurns::Listed(list) => push_list(list, text),
+        AskedTurns::Drawn { seed, per } => {
             push_told(text, ", ", &per)?;
             push_told(text, " turns drawn from ", &seed)
         }

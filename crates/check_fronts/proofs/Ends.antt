@@ -2,9 +2,9 @@
 use Rattle.std.proofs.Common.{◌≡◌, ℕ, List, [], ◌∷◌, ◌++◌, length, map, set, get_or, refl, sym, ap, ◌∙◌, append-nil, append_assoc, arith}
 use Rattle.std.specs.Prelude.{reverse}
 use Rattle.std.proofs.lemmas.List.{map-set, map_push, reverse-reverse, set-get_or}
-use Rattle.flow_core.specs.declared.flow.Flow.{Ghosts}
-use Rattle.flow_core.specs.declared.worker.FlowEnd.{FlowEnd}
-use Rattle.front_close.proofs.Popping.{popped_some}
+use Rattle.worker_core.specs.declared.data_half.DataTraveller.{Ghosts}
+use Rattle.worker_core.specs.declared.data_worker.DataEnd.{DataEnd}
+use Rattle.front_core.proofs.Popping.{popped_some}
 
 -- none of a list that has none
 pub nothing_left : {X : Type 0} (xs : List X) → length xs ≡ 0 → xs ≡ []
@@ -12,7 +12,7 @@ nothing_left [] none = refl
 nothing_left (x ∷ xs) none = absurd (omega arith)
 
 -- the slice of a worker that stopped
-abbrev pub end_place : {H N I : Type 0} {g : Ghosts H N I} → FlowEnd H N I g → ℕ
+abbrev pub end_place : {H N I : Type 0} {g : Ghosts H N I} → DataEnd H N I g → ℕ
 end_place end = end.place
 
 -- by the lanes of workers, or by their slices

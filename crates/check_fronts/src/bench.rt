@@ -1,29 +1,30 @@
 //! A gateway over slices whose workers are turned by hand, and what it reports.
 ghost use Rattle.std.specs.Prelude.{◌≡◌, OnOk, IfOk};
-ghost use Rattle.front_close.specs.Closing.{Closes};
-ghost use Rattle.front_close.specs.Filled.{told_by};
+ghost use Rattle.front_core.specs.Closing.{Closes};
+ghost use Rattle.front_core.specs.Filled.{told_by};
 ghost use Rattle.front_core.specs.Words.{latest_in, opened_of, taken_by};
 ghost use Rattle.check_fronts.specs.Benches.{HasWorkers, IsGateway};
 ghost use Rattle.check_fronts.specs.Stands.{Stands};
 
 use crate::entries::push_epoch;
-use crate::stop::Stop;
-use crate::workers::{control_ends, flow_ends, turn_control, turn_flow};
+use crate::stop::RowStop;
+use crate::workers::{control_ends, data_ends, turn_control, turn_data};
 use at_rest::AtRest;
-use audit_reading::Setup;
-use audit_run::{Finding, finding_of};
-use front_close::{Ended, close};
-use front_core::{Front, Opened};
+use audit_core::{Audited, Setup, audit};
+use front_core::{Ended, Front, Opened, close};
 use pc_base::Moment;
-use report_lines::{Entry, read};
+use pc_outside::{SureSink, SureSource};
 use std::alloc::{AllocError, Global};
 use std::sync::Wait;
 use text_fields::Text;
-use trace_lines::{LineBad, LineKind, TraceLine, read_line};
+use trace_lines::{LineBad, LineKind, TraceLine, push_text, read_line};
 use trace_run::push_opens;
 
 // How many lines a trace may have.
 const MOST_LINES: u64 = 1_000_000;
+
+// What an audit finds is no longer.
+const FINDING_LEN: usize = 16;
 
 /// A gateway over slices in an epoch, the lines that it took, and the report of the epochs before.
 #[derive(Drop)]
@@ -37,37 +38,31 @@ pub struct Bench {
     report: Text,
 }
 
-/// The report of a trace, and what an audit finds of it.
+/// The report of a trace, and what an audit writes of it.
 #[derive(Drop)]
 pub struct Told {
     report: Text,
-    found: Finding,
+    found: Text,
 }
 
 impl Told {
     /// Whether the report is a lawful run of its lines.
     pub fn is_lawful(&self) -> bool {
-        matches!(self.found, Finding::Yes)
+        self.found.as_slice() == b"yes\n".as_slice()
     }
 
     /// Appends both.
-    pub fn push(&self, text: &mut Text) -> Result<(), Stop> {
+    pub fn push(&self, text: &mut Text) -> Result<(), RowStop> {
         text.extend_from_slice(self.report.as_slice())?;
-        match self.found {
-            Finding::Yes => text.extend_from_slice(b"audit: yes\n")?,
-            Finding::No(k) => {
-                text.extend_from_slice(b"audit: no")?;
-                text.push_number(u64::from(k))?;
-                text.push(b'\n')?;
-            }
-        }
+        text.extend_from_slice(b"audit: ")?;
+        text.extend_from_slice(self.found.as_slice())?;
         Ok(())
     }
 }
 
 impl Bench {
     /// A gateway with no subscriber, in its first epoch.
-    pub fn new(alloc: Global, setup: Setup, patience: u32) -> Result<Bench, Stop>
+    pub fn new(alloc: Global, setup: Setup, patience: u32) -> Result<Bench, RowStop>
         requires { IsGateway setup }
         ensures { IfOk result Stands }
     {
@@ -89,38 +84,38 @@ impl Bench {
     }
 
     /// The line of these octets.
-    pub fn read(&self, octets: &[u8]) -> Result<TraceLine, Stop> {
+    pub fn read(&self, octets: &[u8]) -> Result<TraceLine, RowStop> {
         match read_line(self.alloc, octets, self.next(), self.latest) {
             Ok(line) => Ok(line),
-            Err(LineBad::NoMemory) => Err(Stop::NoMemory),
-            Err(_) => Err(Stop::Row),
+            Err(LineBad::NoMemory) => Err(RowStop::NoMemory),
+            Err(_) => Err(RowStop::Row),
         }
     }
 
     /// Takes a line, as the next one.
-    pub fn take<R: Wait>(&mut self, rt: &R, line: TraceLine) -> Result<(), Stop>
+    pub fn take<R: Wait>(&mut self, rt: &R, line: TraceLine) -> Result<(), RowStop>
         requires { Stands self.old }
         ensures { OnOk result (Stands self.new) }
     {
         let mut line = line;
         line.number = self.next();
         if self.opened.front.lines() > MOST_LINES {
-            return Err(Stop::Row);
+            return Err(RowStop::Row);
         }
         let (moment, latest) = (line.moment, self.latest);
         if moment.0 < latest.0 {
-            return Err(Stop::Row);
+            return Err(RowStop::Row);
         }
-        let _took = self.opened.front.line(rt, &line, self.patience)?;
+        let _took = self.opened.front.line(rt, &line, self.patience, &[])?;
         self.latest = moment;
         let Ok(()) = self.lines.push(line) else {
-            return Err(Stop::NoMemory);
+            return Err(RowStop::NoMemory);
         };
         Ok(())
     }
 
     /// An order to end the epoch, at the moment of the last line.
-    pub fn fence<R: Wait>(&mut self, rt: &R) -> Result<(), Stop>
+    pub fn fence<R: Wait>(&mut self, rt: &R) -> Result<(), RowStop>
         requires { Stands self.old }
         ensures { OnOk result (Stands self.new) }
     {
@@ -129,7 +124,7 @@ impl Bench {
     }
 
     /// A turn of a worker: of slice i those of the numbers 2 i and 2 i + 1.
-    pub fn turn<R: Wait>(&mut self, rt: &R, worker: u8) -> Result<(), Stop>
+    pub fn turn<R: Wait>(&mut self, rt: &R, worker: u8) -> Result<(), RowStop>
         requires { Stands self.old }
         ensures { Stands self.new }
     {
@@ -137,12 +132,12 @@ impl Bench {
         if worker.is_multiple_of(2) {
             turn_control(rt, &mut self.opened.controls, slice)
         } else {
-            turn_flow(rt, &mut self.opened.flows, slice)
+            turn_data(rt, &mut self.opened.datas, slice)
         }
     }
 
     /// The epoch ends, and another begins.
-    pub fn close<R: Wait>(self, rt: &R, places: bool) -> Result<Bench, Stop>
+    pub fn close<R: Wait>(self, rt: &R, places: bool) -> Result<Bench, RowStop>
         requires { Stands self }
         ensures { IfOk result Stands }
     {
@@ -169,7 +164,7 @@ impl Bench {
     }
 
     /// The last epoch ends: the whole report.
-    pub fn end<R: Wait>(self, rt: &R, places: bool) -> Result<Told, Stop>
+    pub fn end<R: Wait>(self, rt: &R, places: bool) -> Result<Told, RowStop>
         requires { Stands self }
     {
         let Bench {
@@ -209,35 +204,38 @@ fn close_epoch<R: Wait>(rt: &R, alloc: Global, opened: Opened) -> Result<Ended, 
     let Opened {
         front,
         controls,
-        flows,
+        datas,
     } = opened;
     let controls = control_ends(alloc, controls)?;
-    let flows = flow_ends(alloc, flows)?;
-    close(rt, front, controls, flows)
+    let datas = data_ends(alloc, datas)?;
+    close(rt, front, controls, datas)
 }
 
-// What an audit finds of a report.
+// What an audit writes of a report.
 fn found_of(
     alloc: Global,
     setup: &Setup,
     lines: &[TraceLine],
     report: &[u8],
-) -> Result<Finding, Stop>
+) -> Result<Text, RowStop>
     requires { IsGateway setup.now }
 {
-    if lines.len() as u64 > MOST_LINES {
-        return Err(Stop::Row);
+    let mut input = Text::new(alloc);
+    for line in lines {
+        push_text(&mut input, line)?;
+        input.push(b'\n')?;
     }
-    let entries = entries_of(alloc, report)?;
-    Ok(finding_of(alloc, setup, lines, None, entries.as_slice())?)
-}
-
-fn entries_of(alloc: Global, report: &[u8]) -> Result<Vec<Entry>, AllocError> {
-    let mut entries = Vec::new(alloc);
-    for line in report.split(|octet| *octet == b'\n') {
-        if let Some(entry) = read(alloc, line)? {
-            entries.push(entry)?;
-        }
+    input.extend_from_slice(b"REPORT\n")?;
+    input.extend_from_slice(report)?;
+    let mut source = SureSource::new(input.into_octets())?;
+    let mut sink = SureSink::new(alloc, FINDING_LEN)?;
+    match audit(alloc, setup, false, &mut source, &mut sink) {
+        Audited::Confirmed | Audited::Refuted => (),
+        Audited::NoMemory => return Err(RowStop::NoMemory),
+        Audited::ReadFault | Audited::WriteFault => return Err(RowStop::Row),
+        Audited::LineLong | Audited::TooLong => return Err(RowStop::Row),
     }
-    Ok(entries)
+    let mut found = Text::new(alloc);
+    found.extend_from_slice(sink.written())?;
+    Ok(found)
 }

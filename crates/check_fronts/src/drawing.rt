@@ -4,8 +4,8 @@ ghost use Rattle.check_fronts.specs.Benches.{IsGateway};
 ghost use Rattle.check_fronts.specs.Stands.{Stands};
 
 use crate::bench::Bench;
-use crate::stop::Stop;
-use audit_reading::Setup;
+use crate::stop::RowStop;
+use audit_core::Setup;
 use std::alloc::Global;
 use std::sync::Wait;
 use text_fields::Text;
@@ -36,7 +36,7 @@ fn play_line<R: Wait>(
     line: TraceLine,
     draws: &mut Draws,
     workers: u32,
-) -> Result<(), Stop>
+) -> Result<(), RowStop>
     requires workers { (0 < workers) × (workers ≤ 128) }
     requires stands { Stands bench.old }
     ensures { OnOk result (Stands bench.new) }
@@ -56,7 +56,7 @@ fn play_epoch<R: Wait>(
     maker: &mut Maker,
     draws: &mut Draws,
     workers: u32,
-) -> Result<(), Stop>
+) -> Result<(), RowStop>
     requires workers { (0 < workers) × (workers ≤ 128) }
     requires stands { Stands bench.old }
     ensures { OnOk result (Stands bench.new) }
@@ -71,7 +71,7 @@ fn play_epoch<R: Wait>(
 }
 
 // Whether an audit confirms the report of the trace and turns of a seed.
-fn play_drawn<R: Wait>(rt: &R, alloc: Global, seed: u64) -> Result<bool, Stop> {
+fn play_drawn<R: Wait>(rt: &R, alloc: Global, seed: u64) -> Result<bool, RowStop> {
     let mut draws = Draws::new(seed);
     let setup = drawn_setup(&mut draws);
     let subscribers = draws.draw(4) + 1;
@@ -98,7 +98,7 @@ pub fn play_made<R: Wait>(
     seed: u64,
     runs: u64,
     text: &mut Text,
-) -> Result<(), Stop> {
+) -> Result<(), RowStop> {
     let mut confirmed = 0u64;
     for run in 0..runs {
         if play_drawn(rt, alloc, seed.wrapping_add(run))? {

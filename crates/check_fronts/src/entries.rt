@@ -1,5 +1,5 @@
 //! The lines of an epoch's report.
-use front_close::{Entry, Epoch};
+use front_core::{FrontEntry, FrontEpoch};
 use pc_base::{Place, SliceNo};
 use report_lines::{push_answer, push_judged, push_note, push_refusal};
 use std::alloc::AllocError;
@@ -7,7 +7,7 @@ use text_fields::Text;
 use trace_run::{end_line, push_effects, push_records};
 
 /// Appends the entries of an epoch, with or without the places of its packets.
-pub fn push_epoch(text: &mut Text, epoch: &Epoch, places: bool) -> Result<(), AllocError> {
+pub fn push_epoch(text: &mut Text, epoch: &FrontEpoch, places: bool) -> Result<(), AllocError> {
     for entry in &epoch.lines {
         push_entry(text, entry, places)?;
     }
@@ -15,16 +15,16 @@ pub fn push_epoch(text: &mut Text, epoch: &Epoch, places: bool) -> Result<(), Al
     push_records(text, epoch.rows.as_slice())
 }
 
-fn push_entry(text: &mut Text, entry: &Entry, places: bool) -> Result<(), AllocError> {
+fn push_entry(text: &mut Text, entry: &FrontEntry, places: bool) -> Result<(), AllocError> {
     match entry {
-        Entry::Note { line, text: note } => push_note(text, *line, note.as_slice())?,
-        Entry::Answer {
+        FrontEntry::Note { line, text: note } => push_note(text, *line, note.as_slice())?,
+        FrontEntry::Answer {
             line,
             slot,
             number,
             reply,
         } => push_answer(text, *line, *slot, *number, reply)?,
-        Entry::Judgement {
+        FrontEntry::Judgement {
             line,
             slot,
             number,
@@ -38,7 +38,7 @@ fn push_entry(text: &mut Text, entry: &Entry, places: bool) -> Result<(), AllocE
                 push_place(text, *place, *parked)?;
             }
         }
-        Entry::Refusal { line, slot, packet } => push_refusal(text, *line, *slot, *packet)?,
+        FrontEntry::Refusal { line, slot, packet } => push_refusal(text, *line, *slot, *packet)?,
     }
     end_line(text)
 }

@@ -19,17 +19,17 @@ mod workers;
 
 use bench::Bench;
 use drawing::play_made;
-use rows::{Row, Run, row_of};
+use rows::{FrontRun, Row, row_of};
 use std::alloc::{AllocError, Global};
 use std::io::{self, Read, Write};
 use std::process::ExitCode;
 use std::sync::Wait;
-use stop::Stop;
+use stop::RowStop;
 use text_fields::{Text, cut};
 use trace_lines::LineKind;
 
 // Turns workers one after another.
-fn turn_all<R: Wait>(rt: &R, bench: &mut Bench, workers: &[u8]) -> Result<(), Stop>
+fn turn_all<R: Wait>(rt: &R, bench: &mut Bench, workers: &[u8]) -> Result<(), RowStop>
     requires { Stands bench.old }
     ensures { OnOk result (Stands bench.new) }
 {
@@ -40,7 +40,12 @@ fn turn_all<R: Wait>(rt: &R, bench: &mut Bench, workers: &[u8]) -> Result<(), St
 }
 
 // A line, and the turns behind it.
-fn play_line<R: Wait>(rt: &R, mut bench: Bench, octets: &[u8], run: &Run) -> Result<Bench, Stop>
+fn play_line<R: Wait>(
+    rt: &R,
+    mut bench: Bench,
+    octets: &[u8],
+    run: &FrontRun,
+) -> Result<Bench, RowStop>
     requires { Stands bench }
     ensures { IfOk result Stands }
 {
@@ -69,10 +74,10 @@ fn pieces_of(alloc: Global, text: &[u8]) -> Result<Vec<&[u8]>, AllocError> {
 fn play_lines<R: Wait>(
     rt: &R,
     alloc: Global,
-    run: &Run,
+    run: &FrontRun,
     lines: &[u8],
     text: &mut Text,
-) -> Result<(), Stop>
+) -> Result<(), RowStop>
     requires { IsGateway run.now.setup }
 {
     let lines = pieces_of(alloc, lines)?;
@@ -83,7 +88,7 @@ fn play_lines<R: Wait>(
     bench.end(rt, run.places)?.push(text)
 }
 
-fn play<R: Wait>(rt: &R, alloc: Global, block: &[u8], text: &mut Text) -> Result<(), Stop> {
+fn play<R: Wait>(rt: &R, alloc: Global, block: &[u8], text: &mut Text) -> Result<(), RowStop> {
     let (head, lines) = cut(b'\n', block);
     match row_of(alloc, head)? {
         Row::Run(run) => play_lines(rt, alloc, &run, lines.unwrap_or(&[]), text),
@@ -91,7 +96,7 @@ fn play<R: Wait>(rt: &R, alloc: Global, block: &[u8], text: &mut Text) -> Result
     }
 }
 
-fn play_all<R: Wait>(rt: &R, alloc: Global, octets: &[u8]) -> Result<Text, Stop> {
+fn play_all<R: Wait>(rt: &R, alloc: Global, octets: &[u8]) -> Result<Text, RowStop> {
     let mut text = Text::new(alloc);
     for block in octets.split(|octet| *octet == b'#') {
         if !block.is_empty() {
@@ -102,10 +107,10 @@ fn play_all<R: Wait>(rt: &R, alloc: Global, octets: &[u8]) -> Result<Text, Stop>
 }
 
 // Why standard input couldn't be read.
-fn unread(error: &io::Error) -> Stop {
+fn unread(error: &io::Error) -> RowStop {
     match error.kind() {
-        io::ErrorKind::OutOfMemory => Stop::NoMemory,
-        _ => Stop::Row,
+        io::ErrorKind::OutOfMemory => RowStop::NoMemory,
+        _ => RowStop::Row,
     }
 }
 
@@ -117,8 +122,8 @@ fn main(rt: HostRuntime) -> ExitCode {
     };
     let text = match played {
         Ok(text) => text,
-        Err(Stop::NoMemory) => return ExitCode::from(5),
-        Err(Stop::Row) => return ExitCode::FAILURE,
+        Err(RowStop::NoMemory) => return ExitCode::from(5),
+        Err(RowStop::Row) => return ExitCode::FAILURE,
     };
     match io::writer(&rt).write_all(text.as_slice()) {
         Ok(()) => ExitCode::SUCCESS,

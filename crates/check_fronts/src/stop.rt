@@ -3,14 +3,14 @@ use std::alloc::AllocError as NoMemory;
 
 /// Why a trace has no report.
 #[derive(Clone, Copy)]
-pub enum Stop {
+pub enum RowStop {
     /// A row, or a line, isn't one.
     Row,
     NoMemory,
 }
 
-impl From<NoMemory> for Stop {
-    fn from(_: NoMemory) -> Stop {
-        Stop::NoMemory
+impl From<NoMemory> for RowStop {
+    fn from(_: NoMemory) -> RowStop {
+        RowStop::NoMemory
     }
 }

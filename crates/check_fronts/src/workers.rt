@@ -1,43 +1,42 @@
 //! The workers of slices: a turn of one, and their ends.
 ghost use Rattle.std.specs.Prelude.{◌≡◌, map, IfOk};
 ghost use Rattle.worker_core.specs.Workers as control_worker;
-ghost use Rattle.flow_core.specs.Workers as flow_worker;
-ghost use Rattle.flow_home.specs.Placed.{slices_served};
+ghost use Rattle.worker_core.specs.DataWorkers as data_worker;
+ghost use Rattle.gather_home.specs.DataPlaced.{slices_served};
 
-use crate::stop::Stop;
+use crate::stop::RowStop;
 use control_half::ControlHalf;
-use counter_half::FlowHalf;
-use flow_core::{FlowEnd, FlowWorker};
+use counter_half::DataHalf;
 use std::alloc::{AllocError, Global};
 use std::sync::Wait;
-use worker_core::{Worker, WorkerEnd};
+use worker_core::{DataEnd, DataWorker, Worker, WorkerEnd};
 
 /// A turn of the worker of control halves at a slice.
 pub fn turn_control<R: Wait>(
     rt: &R,
     workers: &mut Vec<Worker<ControlHalf>>,
     slice: usize,
-) -> Result<(), Stop>
+) -> Result<(), RowStop>
     ensures { map control_worker.worker_lanes workers.new.items ≡ map control_worker.worker_lanes workers.old.items }
 {
     if slice >= workers.len() {
-        return Err(Stop::Row);
+        return Err(RowStop::Row);
     }
     let _did = workers[slice].turn(rt)?;
     Ok(())
 }
 
-/// A turn of the worker of counter halves at a slice.
-pub fn turn_flow<R: Wait>(
+/// A turn of the worker of data halves at a slice.
+pub fn turn_data<R: Wait>(
     rt: &R,
-    workers: &mut Vec<FlowWorker<FlowHalf>>,
+    workers: &mut Vec<DataWorker<DataHalf>>,
     slice: usize,
-) -> Result<(), Stop>
-    ensures lanes { map flow_worker.worker_lanes workers.new.items ≡ map flow_worker.worker_lanes workers.old.items }
-    ensures places { map flow_worker.place_of workers.new.items ≡ map flow_worker.place_of workers.old.items }
+) -> Result<(), RowStop>
+    ensures lanes { map data_worker.worker_lanes workers.new.items ≡ map data_worker.worker_lanes workers.old.items }
+    ensures places { map data_worker.place_of workers.new.items ≡ map data_worker.place_of workers.old.items }
 {
     if slice >= workers.len() {
-        return Err(Stop::Row);
+        return Err(RowStop::Row);
     }
     let _did = workers[slice].turn(rt)?;
     Ok(())
@@ -59,14 +58,14 @@ pub fn control_ends(
     Ok(ends)
 }
 
-/// The ends of workers of counter halves, in the same order.
-pub fn flow_ends(
+/// The ends of workers of data halves, in the same order.
+pub fn data_ends(
     alloc: Global,
-    mut workers: Vec<FlowWorker<FlowHalf>>,
-) -> Result<Vec<FlowEnd<FlowHalf>>, AllocError>
-    ensures lanes { IfOk result (λ ends. map flow_worker.end_lanes ends.items
-        ≡ map flow_worker.worker_lanes workers.items) }
-    ensures places { IfOk result (λ ends. slices_served ends.items ≡ map flow_worker.place_of workers.items) }
+    mut workers: Vec<DataWorker<DataHalf>>,
+) -> Result<Vec<DataEnd<DataHalf>>, AllocError>
+    ensures lanes { IfOk result (λ ends. map data_worker.end_lanes ends.items
+        ≡ map data_worker.worker_lanes workers.items) }
+    ensures places { IfOk result (λ ends. slices_served ends.items ≡ map data_worker.place_of workers.items) }
 {
     let mut ends = Vec::new(alloc);
     workers.reverse();

@@ -1,17 +1,16 @@
 //! A subscriber that is split, and turned by hand.
 ghost use Rattle.std.specs.Prelude.{◌≡◌, ◌≤◌, [], ◌++◌, All, IfOk, None, unwrap_or};
 ghost use Rattle.subscriber.specs.Standing.{StandsFor, last_of};
-ghost use Rattle.counter_half.specs.declared.items.FlowItem.{FlowItem};
+ghost use Rattle.counter_half.specs.declared.items.DataItem.{DataItem};
 ghost use Rattle.counter_half.specs.Half.{handled_by};
 ghost use Rattle.split_record.specs.Rejoined.{AreOfOneSplit, AreAccepted, start_of};
 ghost use Rattle.split_record.specs.Props.{accepted_prop};
 
-use crate::patience::{Stop, again};
-use audit_reading::trace_of;
-use audit_sentences::Meant;
+use crate::meaning::meant_by;
+use crate::patience::{OrderStop, again};
 use control_half::{BoxedCommand, ControlHalf};
-use counter_half::{FlowHalf, FlowItem};
-use flow_core::Flow;
+use counter_half::{DataHalf, DataItem};
+use demux::Meant;
 use lane_core::Full;
 use pc_base::{Packet, SliceNo, Slot};
 use split_record::{Finished, FrontEnd, NoMemory, RecordParts, finish, split};
@@ -19,7 +18,7 @@ use std::alloc::Global;
 use std::sync::Wait;
 use subscriber::{Subscriber, few_events_leave_room};
 use trace_lines::TraceLine;
-use worker_core::Traveller;
+use worker_core::{DataTraveller, Traveller};
 
 /// How many slices there are.
 pub const SLICES: u8 = 2;
@@ -30,22 +29,22 @@ pub const ROOM: u32 = 4;
 /// The parts of a split subscriber, the packets that were accepted and not handled yet, and the moment of the last
 /// one; and how often it moved. What it was given meets what `finish` asks.
 #[derive(Drop)]
-struct Bench {
+struct HalfBench {
     front: FrontEnd,
     control: ControlHalf,
-    flow: FlowHalf,
-    left: Vec<FlowItem>,
+    data_half: DataHalf,
+    left: Vec<DataItem>,
     last: u64,
     moves: u8,
-    ghost one: { AreOfOneSplit front control flow },
-    ghost accepted: { AreAccepted front (handled_by flow ++ left.items) } by { accepted_prop },
+    ghost one: { AreOfOneSplit front control data_half },
+    ghost accepted: { AreAccepted front (handled_by data_half ++ left.items) } by { accepted_prop },
     ghost begun: { unwrap_or (last_of (start_of front)) 0 ≤ last },
-    ghost late: { All (λ (i : FlowItem). i.packet.moment ≤ last) (handled_by flow ++ left.items) },
+    ghost late: { All (λ (i : DataItem). i.packet.moment ≤ last) (handled_by data_half ++ left.items) },
     ghost moved: { front.hop ≡ moves },
 }
 
 // No packets, with room for those of a trace.
-fn new_left(alloc: Global) -> Result<Vec<FlowItem>, NoMemory>
+fn new_left(alloc: Global) -> Result<Vec<DataItem>, NoMemory>
     ensures { IfOk result (λ made. made.items ≡ []) }
 {
     for _ in 0..2 {
@@ -69,7 +68,7 @@ fn new_record(alloc: Global) -> Result<Subscriber, NoMemory>
 }
 
 // A new subscriber, split. Out of memory, the record is as before, and is split again.
-fn new_parts(alloc: Global) -> Result<(FrontEnd, ControlHalf, FlowHalf), Stop>
+fn new_parts(alloc: Global) -> Result<(FrontEnd, ControlHalf, DataHalf), OrderStop>
     ensures one { IfOk result (λ parts. AreOfOneSplit parts.0 parts.1 parts.2) }
     ensures packets { IfOk result (λ parts. parts.0.packets ≡ (start_of parts.0).packets) }
     ensures hop { IfOk result (λ parts. parts.0.hop ≡ 0) }
@@ -82,35 +81,35 @@ fn new_parts(alloc: Global) -> Result<(FrontEnd, ControlHalf, FlowHalf), Stop>
         Ok(parts) => Ok(parts),
         Err(record) => match split(alloc, record, ROOM, 0) {
             Ok(parts) => Ok(parts),
-            Err(_) => Err(Stop::NoMemory),
+            Err(_) => Err(OrderStop::NoMemory),
         },
     }
 }
 
-impl Bench {
+impl HalfBench {
     // A new subscriber, over lanes of that room.
-    fn new(alloc: Global) -> Result<Bench, Stop> {
+    fn new(alloc: Global) -> Result<HalfBench, OrderStop> {
         let left = new_left(alloc)?;
-        let (front, control, flow) = new_parts(alloc)?;
-        Ok(Bench {
+        let (front, control, data_half) = new_parts(alloc)?;
+        Ok(HalfBench {
             front,
             control,
-            flow,
+            data_half,
             left,
             last: 0,
             moves: 0,
         })
     }
 
-    // What the lines of all epochs mean, and then the steps of an order.
+    // What all lines mean, and then the steps of an order.
     fn play<R: Wait>(
         &mut self,
         rt: &R,
         alloc: Global,
-        epochs: Vec<Vec<Meant<'_>>>,
+        lines: Vec<Meant<'_>>,
         order: &str,
-    ) -> Result<(), Stop> {
-        self.give_all(rt, alloc, epochs)?;
+    ) -> Result<(), OrderStop> {
+        self.give_all(rt, alloc, lines)?;
         for step in order.chars() {
             self.step(rt, step)?;
         }
@@ -121,29 +120,14 @@ impl Bench {
         &mut self,
         rt: &R,
         alloc: Global,
-        epochs: Vec<Vec<Meant<'_>>>,
-    ) -> Result<(), Stop> {
+        lines: Vec<Meant<'_>>,
+    ) -> Result<(), OrderStop> {
         let mut line = 0u64;
-        for epoch in epochs {
-            line = self.give_epoch(rt, alloc, line, epoch)?;
-        }
-        Ok(())
-    }
-
-    // The lines of an epoch behind so many; how many there are then.
-    fn give_epoch<R: Wait>(
-        &mut self,
-        rt: &R,
-        alloc: Global,
-        before: u64,
-        epoch: Vec<Meant<'_>>,
-    ) -> Result<u64, Stop> {
-        let mut line = before;
-        for meant in epoch {
+        for meant in lines {
             line = line.saturating_add(1);
             self.give(rt, alloc, line, meant)?;
         }
-        Ok(line)
+        Ok(())
     }
 
     fn give<R: Wait>(
@@ -152,7 +136,7 @@ impl Bench {
         alloc: Global,
         line: u64,
         meant: Meant<'_>,
-    ) -> Result<(), Stop> {
+    ) -> Result<(), OrderStop> {
         match meant {
             Meant::Command { command, .. } => {
                 let command = again(|| BoxedCommand::of(alloc, command.try_clone()?))?;
@@ -163,13 +147,13 @@ impl Bench {
                 self.give_packet(line, packet)
             }
             Meant::Move { .. } => self.move_on(),
-            Meant::Note(_) => Err(Stop::Trace),
+            Meant::Note(_) => Err(OrderStop::Trace),
         }
     }
 
-    fn move_on(&mut self) -> Result<(), Stop> {
+    fn move_on(&mut self) -> Result<(), OrderStop> {
         if self.moves > 100 {
-            return Err(Stop::Trace);
+            return Err(OrderStop::Trace);
         }
         self.front.moved();
         self.moves += 1;
@@ -177,10 +161,10 @@ impl Bench {
     }
 
     // Room for its item was made at the start.
-    fn give_packet(&mut self, line: u64, packet: Packet) -> Result<(), Stop> {
+    fn give_packet(&mut self, line: u64, packet: Packet) -> Result<(), OrderStop> {
         let moment = packet.moment.0;
         if moment < self.last || self.front.packets() > 100 {
-            return Err(Stop::Trace);
+            return Err(OrderStop::Trace);
         }
         self.left.reserve(1)?;
         let item = self.front.packet_item(line, false, packet);
@@ -195,13 +179,13 @@ impl Bench {
         rt: &R,
         line: u64,
         command: BoxedCommand,
-    ) -> Result<(), Stop> {
+    ) -> Result<(), OrderStop> {
         if self.front.commands() > 100 {
-            return Err(Stop::Trace);
+            return Err(OrderStop::Trace);
         }
         match self.front.give_command(rt, line, command) {
             Ok(()) => Ok(()),
-            Err(Full(_)) => Err(Stop::Trace),
+            Err(Full(_)) => Err(OrderStop::Trace),
         }
     }
 
@@ -233,7 +217,7 @@ impl Bench {
     }
 
     fn learn<R: Wait>(&mut self, rt: &R) -> Result<(), NoMemory> {
-        self.flow.learn(rt, 16)?;
+        self.data_half.learn(rt, 16)?;
         Ok(())
     }
 
@@ -242,23 +226,23 @@ impl Bench {
         let Some(item) = self.left.first() else {
             return Ok(());
         };
-        if !self.flow.may(item) {
+        if !self.data_half.may(item) {
             return Ok(());
         }
-        self.flow.item(SliceNo(0), item)?;
+        self.data_half.item(SliceNo(0), item)?;
         let _ = self.left.remove(0);
         Ok(())
     }
 
-    fn finish<R: Wait>(self, rt: &R, alloc: Global) -> Result<Finished, Stop> {
-        let Bench {
+    fn finish<R: Wait>(self, rt: &R, alloc: Global) -> Result<Finished, OrderStop> {
+        let HalfBench {
             front,
             control,
-            flow,
+            data_half,
             left,
             ..
         } = self;
-        match finish(rt, alloc, front, control, flow, left) {
+        match finish(rt, alloc, front, control, data_half, left) {
             Ok(finished) => Ok(finished),
             Err(parts) => finished(rt, parts),
         }
@@ -266,12 +250,12 @@ impl Bench {
 }
 
 // Goes on until memory is there, at most twice more.
-fn finished<R: Wait>(rt: &R, parts: RecordParts) -> Result<Finished, Stop> {
+fn finished<R: Wait>(rt: &R, parts: RecordParts) -> Result<Finished, OrderStop> {
     match parts.again(rt) {
         Ok(finished) => Ok(finished),
         Err(parts) => match parts.again(rt) {
             Ok(finished) => Ok(finished),
-            Err(_) => Err(Stop::NoMemory),
+            Err(_) => Err(OrderStop::NoMemory),
         },
     }
 }
@@ -282,10 +266,10 @@ pub fn ended<R: Wait>(
     alloc: Global,
     lines: &[TraceLine],
     order: &str,
-) -> Result<Finished, Stop> {
-    let trace = again(|| trace_of(alloc, SLICES, lines, None))?;
-    let mut bench = Bench::new(alloc)?;
-    match bench.play(rt, alloc, trace.epochs, order) {
+) -> Result<Finished, OrderStop> {
+    let meant = again(|| meant_by(alloc, lines))?;
+    let mut bench = HalfBench::new(alloc)?;
+    match bench.play(rt, alloc, meant, order) {
         Ok(()) => bench.finish(rt, alloc),
         Err(stop) => Err(stop),
     }

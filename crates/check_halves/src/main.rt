@@ -5,13 +5,14 @@
 #![tactic(auto)]
 
 mod bench;
+mod meaning;
 mod patience;
 mod report;
 mod telling;
 mod traces;
 
 use bench::ended;
-use patience::{Stop, again};
+use patience::{OrderStop, again};
 use std::alloc::Global;
 use std::env::{self, Env};
 use std::io::{self, Write};
@@ -19,7 +20,7 @@ use std::process::ExitCode;
 use std::sync::Wait;
 use telling::told;
 use text_fields::Text;
-use traces::{MOVED, STILL, Trace, lines_of};
+use traces::{MOVED, NamedTrace, STILL, lines_of};
 
 /// What is done between the split and the end: a turn of the control half (t), its arrival behind the move (a), a
 /// learning (l), the next packet if its floor is met (p).
@@ -46,11 +47,16 @@ fn words_given<R: Env + AllocGlobal>(rt: &R) -> io::Result<Vec<String>> {
 }
 
 /// An order over a trace, from the split to what is printed of it.
-fn play<R: Wait>(rt: &R, alloc: Global, trace: &Trace, order: &str) -> Result<Text, Stop> {
+fn play<R: Wait>(
+    rt: &R,
+    alloc: Global,
+    trace: &NamedTrace,
+    order: &str,
+) -> Result<Text, OrderStop> {
     let read = again(|| lines_of(alloc, trace.text))?;
     let lines = read.as_slice();
     if lines.len() > 100 {
-        return Err(Stop::Trace);
+        return Err(OrderStop::Trace);
     }
     let finished = ended(rt, alloc, lines, order)?;
     Ok(again(|| told(alloc, trace.name, order, lines, &finished))?)
@@ -61,7 +67,7 @@ fn play_both<R: Wait, W: Write>(
     alloc: Global,
     order: &str,
     out: &mut W,
-) -> Result<(), Stop> {
+) -> Result<(), OrderStop> {
     for trace in [STILL, MOVED] {
         let text = play(rt, alloc, &trace, order)?;
         out.write_all(text.as_slice())?;
@@ -74,7 +80,7 @@ fn play_all<R: Wait, W: Write>(
     alloc: Global,
     words: &[String],
     out: &mut W,
-) -> Result<(), Stop> {
+) -> Result<(), OrderStop> {
     if words.is_empty() {
         for order in ORDERS {
             play_both(rt, alloc, order, out)?;

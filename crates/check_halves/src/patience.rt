@@ -4,7 +4,7 @@ use std::io;
 
 /// Why an order isn't played to its end.
 #[derive(Clone, Copy)]
-pub enum Stop {
+pub enum OrderStop {
     /// Memory ran out three times, one after another.
     NoMemory,
     /// The trace isn't a few lines of one subscriber, or its moments fall.
@@ -13,15 +13,15 @@ pub enum Stop {
     Output,
 }
 
-impl From<NoMemory> for Stop {
-    fn from(_: NoMemory) -> Stop {
-        Stop::NoMemory
+impl From<NoMemory> for OrderStop {
+    fn from(_: NoMemory) -> OrderStop {
+        OrderStop::NoMemory
     }
 }
 
-impl From<io::Error> for Stop {
-    fn from(_: io::Error) -> Stop {
-        Stop::Output
+impl From<io::Error> for OrderStop {
+    fn from(_: io::Error) -> OrderStop {
+        OrderStop::Output
     }
 }
 

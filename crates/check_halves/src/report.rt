@@ -1,9 +1,8 @@
 //! The report of what came of a trace's commands and packets, and its entries.
-use crate::bench::SLICES;
-use audit_reading::trace_of;
-use audit_sentences::Meant;
+use crate::meaning::meant_by;
 use control_half::CommandDone;
 use counter_half::{PacketDone, VersionDone};
+use demux::Meant;
 use pc_base::Slot;
 use report_lines::{
     Entry, push_answer, push_effect, push_judged, push_note, push_open, push_row, read,
@@ -64,22 +63,10 @@ fn push_lines(
     lines: &[TraceLine],
     finished: &Finished,
 ) -> Result<(), NoMemory> {
-    let trace = trace_of(alloc, SLICES, lines, None)?;
-    push_epochs(alloc, text, &trace.epochs, finished)
-}
-
-fn push_epochs(
-    alloc: Global,
-    text: &mut Text,
-    epochs: &[Vec<Meant<'_>>],
-    finished: &Finished,
-) -> Result<(), NoMemory> {
     let mut line = 0u64;
-    for epoch in epochs {
-        for meant in epoch {
-            line = line.saturating_add(1);
-            push_line(alloc, text, line, meant, finished)?;
-        }
+    for meant in &meant_by(alloc, lines)? {
+        line = line.saturating_add(1);
+        push_line(alloc, text, line, meant, finished)?;
     }
     Ok(())
 }

@@ -1,16 +1,18 @@
 //! What is printed of an order: its report, and what an audit finds of it.
-ghost use Rattle.std.specs.Prelude.{◌+◌, ◌<◌, ◌^◌, length};
-ghost use Rattle.audit_reading.specs.Setups.{IsSetup};
+ghost use Rattle.audit_core.specs.Setups.{IsSetup};
 
 use crate::bench::{ROOM, SLICES};
 use crate::report::{entries_of, report_of};
-use audit_reading::Setup;
-use audit_run::{Finding, finding_of};
-use report_lines::{Entry, LineEntry};
+use audit_core::{Audited, Setup, audit};
+use pc_outside::{SureSink, SureSource};
+use report_lines::{Entry, LineEntry, push_text};
 use split_record::{Finished, NoMemory};
 use std::alloc::Global;
 use text_fields::Text;
-use trace_lines::TraceLine;
+use trace_lines::{TraceLine, push_text as push_line};
+
+// What an audit finds is no longer.
+const FINDING_LEN: usize = 16;
 
 // A gateway of slices.
 fn setup() -> Setup
@@ -30,16 +32,31 @@ fn push_finding(
     text: &mut Text,
     lines: &[TraceLine],
     entries: &[Entry],
-) -> Result<(), NoMemory>
-    requires { length lines.now + 1 < 2 ^ 40 }
-{
-    match finding_of(alloc, &setup(), lines, None, entries)? {
-        Finding::Yes => text.extend_from_slice(b" yes"),
-        Finding::No(k) => {
-            text.extend_from_slice(b" no")?;
-            text.push_number(u64::from(k))
-        }
+) -> Result<(), NoMemory> {
+    let mut source = SureSource::new(input_of(alloc, lines, entries)?)?;
+    let mut sink = SureSink::new(alloc, FINDING_LEN)?;
+    match audit(alloc, &setup(), false, &mut source, &mut sink) {
+        Audited::NoMemory => return Err(NoMemory),
+        _ => {}
     }
+    let written = sink.written();
+    text.push(b' ')?;
+    text.extend_from_slice(written.strip_suffix(b"\n").unwrap_or(written))
+}
+
+// What an audit reads: the lines of a trace, and entries.
+fn input_of(alloc: Global, lines: &[TraceLine], entries: &[Entry]) -> Result<Vec<u8>, NoMemory> {
+    let mut input = Text::new(alloc);
+    for line in lines {
+        push_line(&mut input, line)?;
+        input.push(b'\n')?;
+    }
+    input.extend_from_slice(b"REPORT\n")?;
+    for entry in entries {
+        push_text(&mut input, entry, true)?;
+        input.push(b'\n')?;
+    }
+    Ok(input.into_octets())
 }
 
 // The first packet tells one command more.
@@ -58,9 +75,7 @@ fn push_own(
     text: &mut Text,
     lines: &[TraceLine],
     report: &[u8],
-) -> Result<(), NoMemory>
-    requires { length lines.now + 1 < 2 ^ 40 }
-{
+) -> Result<(), NoMemory> {
     let mut entries = entries_of(alloc, report)?;
     push_finding(alloc, text, lines, &entries)?;
     raise_first(&mut entries);
@@ -74,9 +89,7 @@ fn push_cut(
     text: &mut Text,
     lines: &[TraceLine],
     report: &[u8],
-) -> Result<(), NoMemory>
-    requires { length lines.now + 1 < 2 ^ 40 }
-{
+) -> Result<(), NoMemory> {
     let mut entries = entries_of(alloc, report)?;
     let _ = entries.pop();
     text.extend_from_slice(b"; cut:")?;
@@ -114,9 +127,7 @@ pub fn told(
     order: &str,
     lines: &[TraceLine],
     finished: &Finished,
-) -> Result<Text, NoMemory>
-    requires { length lines.now + 1 < 2 ^ 40 }
-{
+) -> Result<Text, NoMemory> {
     let report = report_of(alloc, lines, finished)?;
     let mut text = Text::new(alloc);
     push_head(&mut text, name, order)?;

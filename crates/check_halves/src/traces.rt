@@ -5,13 +5,13 @@ use trace_lines::{LineBad, TraceLine, read_line};
 
 /// A trace and its name.
 #[derive(Clone, Copy)]
-pub struct Trace {
+pub struct NamedTrace {
     pub name: &'static str,
     pub text: &'static str,
 }
 
 /// Three commands and four packets, with no move: the session is created, gets an eNodeB and is deleted.
-pub const STILL: Trace = Trace {
+pub const STILL: NamedTrace = NamedTrace {
     name: "still",
     text: "\
 0 S11 4820006700000000000001000100080000010121436587f95200010006570009008a00001000c63364014700090008696e7465726e657463\
@@ -25,7 +25,7 @@ pub const STILL: Trace = Trace {
 };
 
 /// A packet that may be held, the subscriber moves, gets an eNodeB, and then another one takes its path over.
-pub const MOVED: Trace = Trace {
+pub const MOVED: NamedTrace = NamedTrace {
     name: "moved",
     text: "\
 0 S11 4820006700000000000001000100080000010121436587f95200010006570009008a00001000c63364014700090008696e7465726e657463\

@@ -3,7 +3,7 @@
 //! and y the answers of created, updated and deleted bearers. The numbers are that of the trace's line and then the
 //! event's in their order.
 use crate::fields::Fields;
-use crate::stop::Stop;
+use crate::stop::EventStop;
 use bearer_state::{Ask, Asks, Qos};
 use gate_model::{Command, CommandKind, Event, Packet};
 use pc_base::Way;
@@ -11,7 +11,7 @@ use std::alloc::{AllocError as NoMemory, Global};
 use tft_codec::{Tft, read};
 
 /// The event of a line.
-pub fn event_of(alloc: Global, row: Fields) -> Result<Event, Stop> {
+pub fn event_of(alloc: Global, row: Fields) -> Result<Event, EventStop> {
     match row.letter {
         b'u' | b'U' => Ok(Event::Packet(packet_of(Way::Up(row.octet(3)), row))),
         b'd' | b'D' => Ok(Event::Packet(packet_of(Way::Down, row))),
@@ -19,10 +19,10 @@ pub fn event_of(alloc: Global, row: Fields) -> Result<Event, Stop> {
     }
 }
 
-fn command_of(kind: CommandKind) -> Result<Event, Stop> {
+fn command_of(kind: CommandKind) -> Result<Event, EventStop> {
     match Command::of(kind) {
         Some(command) => Ok(Event::Command(command)),
-        None => Err(Stop::Line),
+        None => Err(EventStop::Line),
     }
 }
 
@@ -36,7 +36,7 @@ pub fn packet_of(way: Way, row: Fields) -> Packet {
     }
 }
 
-fn kind_of(alloc: Global, row: &Fields) -> Result<CommandKind, Stop> {
+fn kind_of(alloc: Global, row: &Fields) -> Result<CommandKind, EventStop> {
     match row.letter {
         b'm' => asked(row, asks_of(alloc, row)?),
         b'b' => Ok(bearer(row, template_of(alloc, row)?)),
@@ -46,14 +46,14 @@ fn kind_of(alloc: Global, row: &Fields) -> Result<CommandKind, Stop> {
     }
 }
 
-fn asked(row: &Fields, asks: Vec<Ask>) -> Result<CommandKind, Stop> {
+fn asked(row: &Fields, asks: Vec<Ask>) -> Result<CommandKind, EventStop> {
     match Asks::of(asks) {
         Some(asks) => Ok(CommandKind::Modify {
             seq: row.word(1),
             mme: row.given(2),
             asks,
         }),
-        None => Err(Stop::Line),
+        None => Err(EventStop::Line),
     }
 }
 
@@ -69,10 +69,10 @@ fn asks_of(alloc: Global, row: &Fields) -> Result<Vec<Ask>, NoMemory> {
     Ok(asks)
 }
 
-fn template_of(alloc: Global, row: &Fields) -> Result<Tft, Stop> {
+fn template_of(alloc: Global, row: &Fields) -> Result<Tft, EventStop> {
     match read(alloc, row.octets.as_slice()) {
         Ok(template) => Ok(template),
-        Err(_) => Err(Stop::Line),
+        Err(_) => Err(EventStop::Line),
     }
 }
 
@@ -139,7 +139,7 @@ fn session_kind(row: &Fields) -> CommandKind {
     }
 }
 
-fn short_kind(row: &Fields) -> Result<CommandKind, Stop> {
+fn short_kind(row: &Fields) -> Result<CommandKind, EventStop> {
     let seq = row.word(1);
     match row.letter {
         b'x' => Ok(CommandKind::Drop {
@@ -150,6 +150,6 @@ fn short_kind(row: &Fields) -> Result<CommandKind, Stop> {
         b'z' => Ok(CommandKind::Delete { seq }),
         b'v' => Ok(CommandKind::UpdateAns { seq }),
         b'y' => Ok(CommandKind::DeleteAns { seq }),
-        _ => Err(Stop::Line),
+        _ => Err(EventStop::Line),
     }
 }

@@ -17,36 +17,41 @@ use fields::Fields;
 use kinds::{event_of, packet_of};
 use lists::{are_asks, are_bearers};
 use pc_base::Way;
-use player::Player;
+use player::SlotPlayer;
 use printing::{push_passed, push_told, push_yes};
 use std::alloc::Global;
 use std::io::{self, BufRead, BufReader, BufWriter, Write};
-use stop::Stop;
+use stop::EventStop;
 use text_fields::Text;
 
 /// What a line asks for: a new slot, a list, or what a slot does.
 fn answer(
     alloc: Global,
-    now: &mut Option<Player>,
+    now: &mut Option<SlotPlayer>,
     line: &str,
     text: &mut Text,
-) -> Result<(), Stop> {
+) -> Result<(), EventStop> {
     let row = Fields::read(alloc, line.as_bytes())?;
     match row.letter {
         b's' => {
-            *now = Some(Player::new(alloc, row.word(0))?);
+            *now = Some(SlotPlayer::new(alloc, row.word(0))?);
             Ok(())
         }
         b'l' => Ok(push_yes(text, are_bearers(alloc, &row)?)?),
         b'k' => Ok(push_yes(text, are_asks(alloc, &row)?)?),
         _ => match now {
             Some(player) => go_on(alloc, player, row, text),
-            None => Err(Stop::Line),
+            None => Err(EventStop::Line),
         },
     }
 }
 
-fn go_on(alloc: Global, player: &mut Player, row: Fields, text: &mut Text) -> Result<(), Stop> {
+fn go_on(
+    alloc: Global,
+    player: &mut SlotPlayer,
+    row: Fields,
+    text: &mut Text,
+) -> Result<(), EventStop> {
     match row.letter {
         b'e' => player.finish(text),
         b't' => player.take(text),

@@ -1,6 +1,6 @@
 //! A slot that is played twice: by the plain gateway, and by a subscriber with its running counters.
 use crate::printing::{end_line, push_effects, push_opens, push_verdict};
-use crate::stop::Stop;
+use crate::stop::EventStop;
 use gate_model::{Command, Effects, Event, Gateway, Happened, Packet, Reply, Slot, Verdict};
 use ipv4_packet::Ip4;
 use packet_steps::{Counters, LentVerdict, gpdu};
@@ -12,19 +12,19 @@ use text_fields::Text;
 
 /// The two gateways of a slot.
 #[derive(Drop)]
-pub struct Player {
+pub struct SlotPlayer {
     slot: Slot,
     plain: Gateway,
     subscriber: Subscriber,
 }
 
-impl Player {
-    pub fn new(alloc: Global, slot: u32) -> Result<Player, Stop> {
+impl SlotPlayer {
+    pub fn new(alloc: Global, slot: u32) -> Result<SlotPlayer, EventStop> {
         if slot > 65_532 {
-            return Err(Stop::Line);
+            return Err(EventStop::Line);
         }
         let slot = Slot(slot);
-        Ok(Player {
+        Ok(SlotPlayer {
             slot,
             plain: Gateway::new(alloc, slot),
             subscriber: Subscriber::new(alloc, slot, SliceNo(0))?,
@@ -40,14 +40,14 @@ impl Player {
         event: &Event,
         lent: bool,
         text: &mut Text,
-    ) -> Result<(), Stop> {
+    ) -> Result<(), EventStop> {
         if let Event::Packet(packet) = event {
             if !self.may_come(packet) {
-                return Err(Stop::Line);
+                return Err(EventStop::Line);
             }
         }
         if !self.plain.has_room() {
-            return Err(Stop::Line);
+            return Err(EventStop::Line);
         }
         let happened = self.plain.event(event)?;
         match event {
@@ -63,7 +63,7 @@ impl Player {
         first: &Packet,
         len: u16,
         count: u8,
-    ) -> Result<u32, Stop> {
+    ) -> Result<u32, EventStop> {
         let mut passed = 0u32;
         for late in 0..count {
             let event = Event::Packet(Packet {
@@ -85,17 +85,17 @@ impl Player {
         Ok(passed)
     }
 
-    fn passes(&mut self, event: &Event) -> Result<bool, Stop> {
+    fn passes(&mut self, event: &Event) -> Result<bool, EventStop> {
         let Event::Packet(packet) = event else {
-            return Err(Stop::Line);
+            return Err(EventStop::Line);
         };
         if !self.plain.has_room() {
-            return Err(Stop::Line);
+            return Err(EventStop::Line);
         }
         let happened = self.plain.event(event)?;
         let verdict = self.handled(packet)?;
         if !judges(&happened, &verdict) {
-            return Err(Stop::Differ);
+            return Err(EventStop::Differ);
         }
         Ok(matches!(&verdict, Verdict::Up { .. }))
     }
@@ -107,14 +107,14 @@ impl Player {
         command: &Command,
         happened: &Happened,
         text: &mut Text,
-    ) -> Result<(), Stop> {
+    ) -> Result<(), EventStop> {
         let number = self.subscriber.commands();
         if !self.subscriber.has_room() {
-            return Err(Stop::Line);
+            return Err(EventStop::Line);
         }
         let (reply, effects) = self.subscriber.command(alloc, command)?;
         if !replies(happened, &reply, &effects) {
-            return Err(Stop::Differ);
+            return Err(EventStop::Differ);
         }
         push_answer(text, line, self.slot, number, &reply)?;
         end_line(text)?;
@@ -130,7 +130,7 @@ impl Player {
         lent: bool,
         happened: &Happened,
         text: &mut Text,
-    ) -> Result<(), Stop> {
+    ) -> Result<(), EventStop> {
         let at = (line, self.slot, packet.number, self.subscriber.commands());
         let verdict = if lent {
             self.judged(alloc, packet)?
@@ -138,7 +138,7 @@ impl Player {
             self.handled(packet)?
         };
         if !judges(happened, &verdict) {
-            return Err(Stop::Differ);
+            return Err(EventStop::Differ);
         }
         push_verdict(text, at, &verdict)?;
         end_line(text)?;
@@ -154,33 +154,33 @@ impl Player {
         late && packet.number == self.subscriber.packets()
     }
 
-    fn handled(&mut self, packet: &Packet) -> Result<Verdict, Stop> {
+    fn handled(&mut self, packet: &Packet) -> Result<Verdict, EventStop> {
         if let Some(last) = self.subscriber.last() {
             if packet.moment < last {
-                return Err(Stop::Line);
+                return Err(EventStop::Line);
             }
         }
         if packet.number != self.subscriber.packets() || !self.subscriber.has_room() {
-            return Err(Stop::Line);
+            return Err(EventStop::Line);
         }
         Ok(self.subscriber.packet(packet)?)
     }
 
-    fn judged(&mut self, alloc: Global, packet: &Packet) -> Result<Verdict, Stop> {
+    fn judged(&mut self, alloc: Global, packet: &Packet) -> Result<Verdict, EventStop> {
         if let Some(last) = self.subscriber.last() {
             if packet.moment < last {
-                return Err(Stop::Line);
+                return Err(EventStop::Line);
             }
         }
         if !self.subscriber.has_room() {
-            return Err(Stop::Line);
+            return Err(EventStop::Line);
         }
         let Ok(ip) = Ip4::read(packet.octets.as_slice()) else {
-            return Err(Stop::Line);
+            return Err(EventStop::Line);
         };
         let handled = self.subscriber.judge(packet.moment, packet.way, &ip)?;
         if handled.number != packet.number || handled.commands != self.subscriber.commands() {
-            return Err(Stop::Differ);
+            return Err(EventStop::Differ);
         }
         owned(alloc, handled.judged)
     }
@@ -211,9 +211,9 @@ impl Player {
 
     /// Makes the subscriber's counters again, of the parts that they have. Tells whether they fit; none is made
     /// where charging records weren't taken, as parts have none.
-    pub fn remake(&mut self) -> Result<bool, Stop> {
+    pub fn remake(&mut self) -> Result<bool, EventStop> {
         if !self.subscriber.counters.book().closed().is_empty() {
-            return Err(Stop::Line);
+            return Err(EventStop::Line);
         }
         let parts = self.subscriber.counters.parts(&self.subscriber.version)?;
         match Counters::of(&self.subscriber.version, parts)? {
@@ -226,13 +226,13 @@ impl Player {
     }
 
     /// Appends the charging records, and the open counters by index.
-    pub fn finish(&mut self, text: &mut Text) -> Result<(), Stop> {
+    pub fn finish(&mut self, text: &mut Text) -> Result<(), EventStop> {
         self.take(text)?;
         self.opens(text)
     }
 
     /// Appends the charging records that weren't taken.
-    pub fn take(&mut self, text: &mut Text) -> Result<(), Stop> {
+    pub fn take(&mut self, text: &mut Text) -> Result<(), EventStop> {
         for row in &self.subscriber.take_closed() {
             push_row(text, self.slot, row)?;
             end_line(text)?;
@@ -241,7 +241,7 @@ impl Player {
     }
 
     /// Appends the open counters by index.
-    pub fn opens(&self, text: &mut Text) -> Result<(), Stop> {
+    pub fn opens(&self, text: &mut Text) -> Result<(), EventStop> {
         let opens = self.subscriber.still_open();
         for bearer in self.subscriber.bearers() {
             push_opens(text, self.slot, bearer.life, opens)?;
@@ -251,11 +251,11 @@ impl Player {
 }
 
 /// Octets with this length, which the head of a packet tells.
-fn sized(alloc: Global, octets: &[u8], len: u16) -> Result<Octets, Stop> {
+fn sized(alloc: Global, octets: &[u8], len: u16) -> Result<Octets, EventStop> {
     let mut packet = Vec::from_slice(alloc, octets)?;
     packet.resize(usize::from(len), 0)?;
     if packet.len() < 4 {
-        return Err(Stop::Line);
+        return Err(EventStop::Line);
     }
     let [high, low] = len.to_be_bytes();
     packet[2] = high;
@@ -263,7 +263,7 @@ fn sized(alloc: Global, octets: &[u8], len: u16) -> Result<Octets, Stop> {
     Ok(Octets::of(packet))
 }
 
-fn owned(alloc: Global, judged: LentVerdict<'_>) -> Result<Verdict, Stop> {
+fn owned(alloc: Global, judged: LentVerdict<'_>) -> Result<Verdict, EventStop> {
     match judged {
         LentVerdict::Up { life, octets } => Ok(Verdict::Up {
             life,
@@ -271,7 +271,7 @@ fn owned(alloc: Global, judged: LentVerdict<'_>) -> Result<Verdict, Stop> {
         }),
         LentVerdict::Down { life, peer, octets } => {
             if octets.len() > 65_535 {
-                return Err(Stop::Line);
+                return Err(EventStop::Line);
             }
             Ok(Verdict::Down {
                 life,

@@ -3,7 +3,7 @@ use std::alloc::AllocError;
 
 /// Why a line has no answer.
 #[derive(Clone, Copy, Debug)]
-pub enum Stop {
+pub enum EventStop {
     /// It is no event.
     Line,
     /// The plain gateway and the running counters say two things.
@@ -11,18 +11,18 @@ pub enum Stop {
     NoMemory,
 }
 
-impl Stop {
+impl EventStop {
     pub fn word(self) -> &'static str {
         match self {
-            Stop::Line => "no event",
-            Stop::Differ => "two answers",
-            Stop::NoMemory => "no memory",
+            EventStop::Line => "no event",
+            EventStop::Differ => "two answers",
+            EventStop::NoMemory => "no memory",
         }
     }
 }
 
-impl From<AllocError> for Stop {
-    fn from(_error: AllocError) -> Stop {
-        Stop::NoMemory
+impl From<AllocError> for EventStop {
+    fn from(_error: AllocError) -> EventStop {
+        EventStop::NoMemory
     }
 }

@@ -5,54 +5,54 @@ use text_fields::Text;
 
 /// Why a step has no answer.
 #[derive(Clone, Copy, Debug)]
-pub enum Stop {
+pub enum StepStop {
     /// It doesn't fit what is played.
     Step,
     NoMemory,
 }
 
-impl From<NoMemory> for Stop {
-    fn from(_none: NoMemory) -> Stop {
-        Stop::NoMemory
+impl From<NoMemory> for StepStop {
+    fn from(_none: NoMemory) -> StepStop {
+        StepStop::NoMemory
     }
 }
 
-impl<T: Drop> From<AllocFailed<T>> for Stop {
-    fn from(_refused: AllocFailed<T>) -> Stop {
-        Stop::NoMemory
+impl<T: Drop> From<AllocFailed<T>> for StepStop {
+    fn from(_refused: AllocFailed<T>) -> StepStop {
+        StepStop::NoMemory
     }
 }
 
-pub fn push_word(text: &mut Text, word: &[u8]) -> Result<(), Stop> {
+pub fn push_word(text: &mut Text, word: &[u8]) -> Result<(), StepStop> {
     text.extend_from_slice(word)?;
     Ok(())
 }
 
-pub fn word_of(alloc: Global, word: &[u8]) -> Result<Text, Stop> {
+pub fn word_of(alloc: Global, word: &[u8]) -> Result<Text, StepStop> {
     let mut text = Text::new(alloc);
     push_word(&mut text, word)?;
     Ok(text)
 }
 
-pub fn push_yes(text: &mut Text, is: bool) -> Result<(), Stop> {
+pub fn push_yes(text: &mut Text, is: bool) -> Result<(), StepStop> {
     push_word(text, if is { b"yes" } else { b"no" })
 }
 
-pub fn yes_or_no(alloc: Global, is: bool) -> Result<Text, Stop> {
+pub fn yes_or_no(alloc: Global, is: bool) -> Result<Text, StepStop> {
     let mut text = Text::new(alloc);
     push_yes(&mut text, is)?;
     Ok(text)
 }
 
 /// A word, and a number behind a blank.
-pub fn push_counted(text: &mut Text, word: &[u8], number: u64) -> Result<(), Stop> {
+pub fn push_counted(text: &mut Text, word: &[u8], number: u64) -> Result<(), StepStop> {
     push_word(text, word)?;
     text.push_number(number)?;
     Ok(())
 }
 
 /// Numbers, each behind a blank.
-pub fn numbers(alloc: Global, of: &[u64]) -> Result<Text, Stop> {
+pub fn numbers(alloc: Global, of: &[u64]) -> Result<Text, StepStop> {
     let mut text = Text::new(alloc);
     push_numbers(&mut text, of)?;
     Ok(text)

@@ -4,8 +4,8 @@ ghost use Rattle.std.proofs.Props.{props};
 ghost use Rattle.control_half.specs.Batch.{versions_of as held};
 ghost use Rattle.control_half.specs.Consecutive.{IsNext};
 
-use crate::answers::{Stop, push_counted, push_word};
-use crate::step::Step;
+use crate::answers::{StepStop, push_counted, push_word};
+use crate::step::ScriptStep;
 use control_half::Batch;
 use lane_core::NoMemory;
 use pc_base::Numbered;
@@ -43,12 +43,12 @@ impl Shelf {
 
     // Adds the version behind the last one, and tells the one that came back, if it did.
     #[tactic(auto, using(crate::proofs::Editions::edition_after))]
-    fn add(&mut self, floor: u64) -> Result<Option<u64>, Stop> {
+    fn add(&mut self, floor: u64) -> Result<Option<u64>, StepStop> {
         let Some(next) = self.next else {
-            return Err(Stop::Step);
+            return Err(StepStop::Step);
         };
         if next > 1000 {
-            return Err(Stop::Step);
+            return Err(StepStop::Step);
         }
         match self.batch.add(Edition(next), floor) {
             Ok(()) => {
@@ -69,7 +69,7 @@ impl Shelf {
     }
 
     /// A version more under a floor (a), the floor (f), the versions (v), or the first one, which is taken (t).
-    pub fn play(&mut self, step: Step, text: &mut Text) -> Result<(), Stop> {
+    pub fn play(&mut self, step: ScriptStep, text: &mut Text) -> Result<(), StepStop> {
         match step.letter {
             b'a' => match self.add(u64::from(step.one))? {
                 None => push_word(text, b"ok"),
@@ -81,7 +81,7 @@ impl Shelf {
                 Some(first) => push_counted(text, b"", first),
                 None => push_word(text, b"none"),
             },
-            _ => Err(Stop::Step),
+            _ => Err(StepStop::Step),
         }
     }
 }

@@ -1,6 +1,6 @@
 //! A control half at its lanes, turned by hand.
-use crate::answers::{Stop, push_counted, push_word};
-use crate::step::Step;
+use crate::answers::{StepStop, push_counted, push_word};
+use crate::step::ScriptStep;
 use bearer_state::{Session, Version};
 use control_half::{Batch, BoxedCommand, CommandDone, CommandItem, ControlHalf};
 use control_steps::{Command, CommandKind};
@@ -18,14 +18,14 @@ const ENB: Peer = Peer {
 
 /// A half, and the far ends of its lanes.
 #[derive(Drop)]
-pub struct Desk {
+pub struct ControlBench {
     alloc: Global,
     half: ControlHalf,
     commands: Sender<CommandItem>,
     versions: Receiver<Batch<Version>>,
 }
 
-fn attach(alloc: Global) -> Result<BoxedCommand, Stop> {
+fn attach(alloc: Global) -> Result<BoxedCommand, StepStop> {
     let kind = CommandKind::Attach {
         enb: ENB,
         up: Kbps(1000),
@@ -33,35 +33,35 @@ fn attach(alloc: Global) -> Result<BoxedCommand, Stop> {
     };
     match Command::of(kind) {
         Some(command) => Ok(BoxedCommand::of(alloc, command)?),
-        None => Err(Stop::Step),
+        None => Err(StepStop::Step),
     }
 }
 
-impl Desk {
+impl ControlBench {
     /// A new half, over lanes of so many commands and batches.
-    pub fn new(alloc: Global, commands: u32, batches: u32) -> Result<Desk, Stop> {
+    pub fn new(alloc: Global, commands: u32, batches: u32) -> Result<ControlBench, StepStop> {
         if commands == 0 || commands > 100 || batches == 0 || batches > 100 {
-            return Err(Stop::Step);
+            return Err(StepStop::Step);
         }
         let (commands, taking) = lane(alloc, commands)?;
         let (sending, versions) = lane(alloc, batches)?;
         let session = Session::new(alloc, Slot(1));
         match ControlHalf::new(session, 0, 0, taking, sending) {
-            Ok(half) => Ok(Desk {
+            Ok(half) => Ok(ControlBench {
                 alloc,
                 half,
                 commands,
                 versions,
             }),
-            Err(_) => Err(Stop::NoMemory),
+            Err(_) => Err(StepStop::NoMemory),
         }
     }
 
     // The next command, an attach; whether the lane takes it. It is ten lines behind its number.
-    fn give<R: Wait>(&mut self, rt: &R, step: Step) -> Result<bool, Stop> {
+    fn give<R: Wait>(&mut self, rt: &R, step: ScriptStep) -> Result<bool, StepStop> {
         let number = self.commands.offers();
         if number > 100 {
-            return Err(Stop::Step);
+            return Err(StepStop::Step);
         }
         let item = CommandItem {
             number,
@@ -83,7 +83,7 @@ impl Desk {
     }
 
     // The floor of the next batch, and the numbers of its versions.
-    fn batch<R: Wait>(&mut self, rt: &R, text: &mut Text) -> Result<(), Stop> {
+    fn batch<R: Wait>(&mut self, rt: &R, text: &mut Text) -> Result<(), StepStop> {
         match self.versions.take(rt) {
             Some(batch) => Ok(push_batch(text, &batch)?),
             None => push_word(text, b"none"),
@@ -92,7 +92,12 @@ impl Desk {
 
     /// A command of a hop and a floor (c), a turn and how many commands the half has applied behind it (w), the next
     /// batch (b), or an arrival behind so many moves (h).
-    pub fn play<R: Wait>(&mut self, rt: &R, step: Step, text: &mut Text) -> Result<(), Stop> {
+    pub fn play<R: Wait>(
+        &mut self,
+        rt: &R,
+        step: ScriptStep,
+        text: &mut Text,
+    ) -> Result<(), StepStop> {
         match step.letter {
             b'c' => {
                 let took = self.give(rt, step)?;
@@ -107,12 +112,12 @@ impl Desk {
                 self.half.arrive(u64::from(step.one));
                 push_word(text, b"ok")
             }
-            _ => Err(Stop::Step),
+            _ => Err(StepStop::Step),
         }
     }
 
     /// The replies: line, number and outcome of each.
-    pub fn end(self, alloc: Global) -> Result<Text, Stop> {
+    pub fn end(self, alloc: Global) -> Result<Text, StepStop> {
         let mut text = Text::new(alloc);
         let end = self.half.into_end();
         push_notes(&mut text, end.control.notes.as_slice())?;

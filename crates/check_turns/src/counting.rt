@@ -1,10 +1,10 @@
-//! A counter half at its lane, which learns and judges by hand.
-use crate::answers::{Stop, push_word, push_yes};
-use crate::step::Step;
+//! A data half at its lane, which learns and judges by hand.
+use crate::answers::{StepStop, push_word, push_yes};
+use crate::step::ScriptStep;
 use bearer_state::{Ask, Asks, Qos, Session, Version};
 use control_half::Batch;
 use control_steps::{Command, CommandKind, step};
-use counter_half::{FlowHalf, FlowItem, FlowRest, HalfState, PacketDone};
+use counter_half::{DataHalf, DataItem, DataRest, HalfState, PacketDone};
 use lane_core::{NoMemory, Sender, lane};
 use packet_steps::Counters;
 use pc_base::{
@@ -23,8 +23,8 @@ const DOWN: [u8; 28] = [
 
 /// A half, the far end of its lane, and the session whose versions are sent there.
 #[derive(Drop)]
-pub struct Bench {
-    half: FlowHalf,
+pub struct CountBench {
+    half: DataHalf,
     versions: Sender<Batch<Version>>,
     session: Session,
     number: u64,
@@ -56,9 +56,9 @@ fn create() -> CommandKind {
 }
 
 // A Modify Bearer Request: EBI 5 has the eNodeB of this number, 1 to 100.
-fn modify(alloc: Global, enb: u32) -> Result<CommandKind, Stop> {
+fn modify(alloc: Global, enb: u32) -> Result<CommandKind, StepStop> {
     if enb > 100 {
-        return Err(Stop::Step);
+        return Err(StepStop::Step);
     }
     let mut asks = Vec::new(alloc);
     asks.push(Ask {
@@ -74,38 +74,38 @@ fn modify(alloc: Global, enb: u32) -> Result<CommandKind, Stop> {
             mme: None,
             asks,
         }),
-        None => Err(Stop::Step),
+        None => Err(StepStop::Step),
     }
 }
 
-impl Bench {
+impl CountBench {
     /// A new half, over a lane of so many batches.
-    pub fn new(alloc: Global, batches: u32) -> Result<Bench, Stop> {
+    pub fn new(alloc: Global, batches: u32) -> Result<CountBench, StepStop> {
         if batches == 0 || batches > 100 {
-            return Err(Stop::Step);
+            return Err(StepStop::Step);
         }
         let (versions, taking) = lane(alloc, batches)?;
         let session = Session::new(alloc, Slot(0));
         let version = session.version(0)?;
-        match FlowHalf::new(&session, version, Counters::new(alloc), 0, taking) {
-            Ok(half) => Ok(Bench {
+        match DataHalf::new(&session, version, Counters::new(alloc), 0, taking) {
+            Ok(half) => Ok(CountBench {
                 half,
                 versions,
                 session,
                 number: 0,
                 packets: 0,
             }),
-            Err(_) => Err(Stop::NoMemory),
+            Err(_) => Err(StepStop::NoMemory),
         }
     }
 
     // The version that a command leaves.
-    fn version_of(&mut self, alloc: Global, kind: CommandKind) -> Result<Version, Stop> {
+    fn version_of(&mut self, alloc: Global, kind: CommandKind) -> Result<Version, StepStop> {
         if self.number > 100 || !self.session.has_room() {
-            return Err(Stop::Step);
+            return Err(StepStop::Step);
         }
         let Some(command) = Command::of(kind) else {
-            return Err(Stop::Step);
+            return Err(StepStop::Step);
         };
         step(alloc, &mut self.session, &command)?;
         self.number += 1;
@@ -119,22 +119,22 @@ impl Bench {
         alloc: Global,
         kind: CommandKind,
         floor: u32,
-    ) -> Result<bool, Stop> {
+    ) -> Result<bool, StepStop> {
         let version = self.version_of(alloc, kind)?;
         let batch = Batch::new(alloc, version, u64::from(floor))?;
         if self.versions.offers() > 100 {
-            return Err(Stop::Step);
+            return Err(StepStop::Step);
         }
         Ok(self.versions.offer(rt, batch).is_ok())
     }
 
     // The next packet down. It is ten lines behind its number.
-    fn item(&self, alloc: Global, floor: u32, moment: u32) -> Result<FlowItem, Stop> {
+    fn item(&self, alloc: Global, floor: u32, moment: u32) -> Result<DataItem, StepStop> {
         let number = self.packets;
         if number > 100 {
-            return Err(Stop::Step);
+            return Err(StepStop::Step);
         }
-        Ok(FlowItem {
+        Ok(DataItem {
             slot: Slot(0),
             number,
             floor: u64::from(floor),
@@ -150,7 +150,7 @@ impl Bench {
     }
 
     // Handles the next packet at slice 1, if it may; whether it does.
-    fn handle(&mut self, item: &FlowItem) -> Result<bool, NoMemory> {
+    fn handle(&mut self, item: &DataItem) -> Result<bool, NoMemory> {
         if !self.half.may_handle(item) {
             return Ok(false);
         }
@@ -160,7 +160,12 @@ impl Bench {
     }
 
     // The version that the session's making leaves, or another eNodeB.
-    fn publish<R: Wait>(&mut self, rt: &R, alloc: Global, step: Step) -> Result<bool, Stop> {
+    fn publish<R: Wait>(
+        &mut self,
+        rt: &R,
+        alloc: Global,
+        step: ScriptStep,
+    ) -> Result<bool, StepStop> {
         if step.letter == b's' {
             return self.send(rt, alloc, create(), step.one);
         }
@@ -175,9 +180,9 @@ impl Bench {
         &mut self,
         rt: &R,
         alloc: Global,
-        step: Step,
+        step: ScriptStep,
         text: &mut Text,
-    ) -> Result<(), Stop> {
+    ) -> Result<(), StepStop> {
         match step.letter {
             b's' | b'n' => {
                 let took = self.publish(rt, alloc, step)?;
@@ -196,13 +201,13 @@ impl Bench {
                 let handled = self.handle(&item)?;
                 push_word(text, if handled { b"ok" } else { b"waits" })
             }
-            _ => Err(Stop::Step),
+            _ => Err(StepStop::Step),
         }
     }
 
     /// How many commands were learnt and packets handled, the floor of a batch that is kept, the moment of the last
     /// packet; then each packet's verdict, and each effect with its command.
-    pub fn end(self, alloc: Global) -> Result<Text, Stop> {
+    pub fn end(self, alloc: Global) -> Result<Text, StepStop> {
         let mut text = Text::new(alloc);
         let rest = self.half.into_rest();
         push_rest(&mut text, &rest)?;
@@ -210,7 +215,7 @@ impl Bench {
     }
 }
 
-fn push_rest(text: &mut Text, rest: &FlowRest) -> Result<(), NoMemory> {
+fn push_rest(text: &mut Text, rest: &DataRest) -> Result<(), NoMemory> {
     let state = &rest.state;
     text.push_number(state.met)?;
     text.push_number(state.done)?;

@@ -2,8 +2,8 @@
 ghost use Rattle.std.specs.Prelude.{◌≡◌, ◌≤◌, ◌<◌, ◌+◌, ◌^◌, length};
 ghost use Rattle.lane_core.specs.Ends.{sender_lane, receiver_lane, sent};
 
-use crate::answers::{Stop, numbers, push_numbers, word_of, yes_or_no};
-use crate::step::Step;
+use crate::answers::{StepStop, numbers, push_numbers, word_of, yes_or_no};
+use crate::step::ScriptStep;
 use lane_core::{Carried, Full, NoMemory, Receiver, Sender, close, lane};
 use std::alloc::Global;
 use std::sync::Wait;
@@ -24,9 +24,9 @@ pub struct Lane {
 }
 
 impl Lane {
-    pub fn new(alloc: Global, room: u32) -> Result<Lane, Stop> {
+    pub fn new(alloc: Global, room: u32) -> Result<Lane, StepStop> {
         if room == 0 || room > 65_536 {
-            return Err(Stop::Step);
+            return Err(StepStop::Step);
         }
         let (tx, rx) = lane(alloc, room)?;
         Ok(Lane { tx, rx })
@@ -54,7 +54,12 @@ impl Lane {
 
     /// An offer (o), a taking (t), offers of all numbers below one (f), or the counts of offers, of refusals and of
     /// takings in vain (c).
-    pub fn play<R: Wait>(&mut self, rt: &R, alloc: Global, step: Step) -> Result<Text, Stop> {
+    pub fn play<R: Wait>(
+        &mut self,
+        rt: &R,
+        alloc: Global,
+        step: ScriptStep,
+    ) -> Result<Text, StepStop> {
         match step.letter {
             b'o' => {
                 let taken = self.offer(rt, step.one);
@@ -72,14 +77,14 @@ impl Lane {
                 alloc,
                 &[self.tx.offers(), self.tx.fulls(), self.rx.empties()],
             ),
-            _ => Err(Stop::Step),
+            _ => Err(StepStop::Step),
         }
     }
 
     /// How many are left, then the first and the last of them.
-    pub fn end<R: Wait>(self, rt: &R, alloc: Global) -> Result<Text, Stop> {
+    pub fn end<R: Wait>(self, rt: &R, alloc: Global) -> Result<Text, StepStop> {
         let Ok(rest) = close(rt, alloc, self.tx, self.rx) else {
-            return Err(Stop::NoMemory);
+            return Err(StepStop::NoMemory);
         };
         let mut text = numbers(alloc, &[rest.len() as u64])?;
         push_ends(&mut text, &rest)?;

@@ -1,104 +1,120 @@
 //! Plays scripts of turns: a step a line, and the answer a line. With small halves of its own it plays a lane (L), a
 //! side of halves that travel (W), or one of halves to which items come (F), each with its workers; of a subscriber a
-//! batch (B, with its first version and its floor), a control half (C, with the room of its lanes) or a counter half
+//! batch (B, with its first version and its floor), a control half (C, with the room of its lanes) or a data half
 //! (P, with the room of its lane). A line x closes it, and all come home. A line that begins with '#' is repeated.
+//! Behind them the two halves of a subscriber go through a slice, each worker in a thread of its own.
 #![tactic(auto)]
 
 mod answers;
 mod batching;
 mod controlling;
 mod counting;
-mod flowing;
+mod data_travelling;
 mod laning;
 mod pupil;
 mod step;
+mod thread_control;
+mod thread_data;
+mod thread_stop;
+mod thread_subject;
+mod threads;
 mod walker;
 mod walking;
 
-use answers::{Stop, word_of};
+use answers::{StepStop, word_of};
 use batching::Shelf;
-use controlling::Desk;
-use counting::Bench;
-use flowing::Stream;
+use controlling::ControlBench;
+use counting::CountBench;
+use data_travelling::Stream;
 use laning::Lane;
 use std::alloc::{AllocError, Global};
 use std::io::{self, Read, Write};
 use std::sync::Wait;
-use step::Step;
+use step::ScriptStep;
 use text_fields::Text;
 use walking::Walk;
 
 /// What is played.
 #[derive(Drop)]
-enum Stage {
+enum ScriptStage {
     Nothing,
     Lane(Lane),
     Walk(Walk),
     Stream(Stream),
     Batch(Shelf),
-    Control(Desk),
-    Counter(Bench),
+    Control(ControlBench),
+    Counter(CountBench),
 }
 
 /// The stage that a step asks for.
-fn opened(alloc: Global, step: Step) -> Result<Stage, Stop> {
+fn opened(alloc: Global, step: ScriptStep) -> Result<ScriptStage, StepStop> {
     match step.letter {
-        b'L' => Ok(Stage::Lane(Lane::new(alloc, step.one)?)),
-        b'W' => Ok(Stage::Walk(Walk::new(alloc)?)),
-        b'F' => Ok(Stage::Stream(Stream::new(alloc, step.one, step.two)?)),
-        b'B' => Ok(Stage::Batch(Shelf::new(alloc, step.one, step.two)?)),
-        b'C' => Ok(Stage::Control(Desk::new(alloc, step.one, step.two)?)),
-        _ => Ok(Stage::Counter(Bench::new(alloc, step.one)?)),
+        b'L' => Ok(ScriptStage::Lane(Lane::new(alloc, step.one)?)),
+        b'W' => Ok(ScriptStage::Walk(Walk::new(alloc)?)),
+        b'F' => Ok(ScriptStage::Stream(Stream::new(alloc, step.one, step.two)?)),
+        b'B' => Ok(ScriptStage::Batch(Shelf::new(alloc, step.one, step.two)?)),
+        b'C' => Ok(ScriptStage::Control(ControlBench::new(alloc, step.one, step.two)?)),
+        _ => Ok(ScriptStage::Counter(CountBench::new(alloc, step.one)?)),
     }
 }
 
-fn begin(alloc: Global, stage: &mut Stage, step: Step) -> Result<Text, Stop> {
+fn begin(alloc: Global, stage: &mut ScriptStage, step: ScriptStep) -> Result<Text, StepStop> {
     *stage = opened(alloc, step)?;
     word_of(alloc, b"opened")
 }
 
-fn go_on<R: Wait>(rt: &R, alloc: Global, stage: &mut Stage, step: Step) -> Result<Text, Stop> {
+fn go_on<R: Wait>(
+    rt: &R,
+    alloc: Global,
+    stage: &mut ScriptStage,
+    step: ScriptStep,
+) -> Result<Text, StepStop> {
     let mut text = Text::new(alloc);
     match stage {
-        Stage::Nothing => return Err(Stop::Step),
-        Stage::Lane(lane) => return lane.play(rt, alloc, step),
-        Stage::Walk(walk) => return walk.play(rt, alloc, step),
-        Stage::Stream(stream) => return stream.play(rt, alloc, step),
-        Stage::Batch(shelf) => shelf.play(step, &mut text)?,
-        Stage::Control(desk) => desk.play(rt, step, &mut text)?,
-        Stage::Counter(bench) => bench.play(rt, alloc, step, &mut text)?,
+        ScriptStage::Nothing => return Err(StepStop::Step),
+        ScriptStage::Lane(lane) => return lane.play(rt, alloc, step),
+        ScriptStage::Walk(walk) => return walk.play(rt, alloc, step),
+        ScriptStage::Stream(stream) => return stream.play(rt, alloc, step),
+        ScriptStage::Batch(shelf) => shelf.play(step, &mut text)?,
+        ScriptStage::Control(desk) => desk.play(rt, step, &mut text)?,
+        ScriptStage::Counter(bench) => bench.play(rt, alloc, step, &mut text)?,
     }
     Ok(text)
 }
 
-fn close<R: Wait>(rt: &R, alloc: Global, stage: Stage) -> Result<Text, Stop> {
+fn close<R: Wait>(rt: &R, alloc: Global, stage: ScriptStage) -> Result<Text, StepStop> {
     match stage {
-        Stage::Nothing => Err(Stop::Step),
-        Stage::Lane(lane) => lane.end(rt, alloc),
-        Stage::Walk(walk) => walk.end(rt, alloc),
-        Stage::Stream(stream) => stream.end(rt, alloc),
-        Stage::Batch(_) => word_of(alloc, b"closed"),
-        Stage::Control(desk) => desk.end(alloc),
-        Stage::Counter(bench) => bench.end(alloc),
+        ScriptStage::Nothing => Err(StepStop::Step),
+        ScriptStage::Lane(lane) => lane.end(rt, alloc),
+        ScriptStage::Walk(walk) => walk.end(rt, alloc),
+        ScriptStage::Stream(stream) => stream.end(rt, alloc),
+        ScriptStage::Batch(_) => word_of(alloc, b"closed"),
+        ScriptStage::Control(desk) => desk.end(alloc),
+        ScriptStage::Counter(bench) => bench.end(alloc),
     }
 }
 
-fn answer<R: Wait>(rt: &R, alloc: Global, stage: &mut Stage, line: &[u8]) -> Result<Text, Stop> {
-    let step = Step::read(line);
+fn answer<R: Wait>(
+    rt: &R,
+    alloc: Global,
+    stage: &mut ScriptStage,
+    line: &[u8],
+) -> Result<Text, StepStop> {
+    let step = ScriptStep::read(line);
     match step.letter {
         b'#' => word_of(alloc, line),
         b'L' | b'W' | b'F' | b'B' | b'C' | b'P' => begin(alloc, stage, step),
-        b'x' => close(rt, alloc, std::mem::replace(stage, Stage::Nothing)),
+        b'x' => close(rt, alloc, std::mem::replace(stage, ScriptStage::Nothing)),
         _ => go_on(rt, alloc, stage, step),
     }
 }
 
 // The line that answers a step, without the blank before its first number.
-fn push_line(told: &mut Vec<u8>, answered: &Result<Text, Stop>) -> Result<(), AllocError> {
+fn push_line(told: &mut Vec<u8>, answered: &Result<Text, StepStop>) -> Result<(), AllocError> {
     let text: &[u8] = match answered {
         Ok(text) => text.as_slice(),
-        Err(Stop::Step) => b"no such step",
-        Err(Stop::NoMemory) => b"no memory",
+        Err(StepStop::Step) => b"no such step",
+        Err(StepStop::NoMemory) => b"no memory",
     };
     told.extend_from_slice(text.strip_prefix(b" ").unwrap_or(text))?;
     told.push(b'\n')?;
@@ -109,7 +125,7 @@ fn push_line(told: &mut Vec<u8>, answered: &Result<Text, Stop>) -> Result<(), Al
 fn play<R: Wait>(
     rt: &R,
     alloc: Global,
-    stage: &mut Stage,
+    stage: &mut ScriptStage,
     script: &[u8],
     told: &mut Vec<u8>,
 ) -> Result<(), AllocError> {
@@ -123,7 +139,7 @@ fn play<R: Wait>(
 /// The answers to a script, a line each.
 fn played<R: Wait>(rt: &R, alloc: Global, script: &[u8]) -> Result<Vec<u8>, AllocError> {
     let mut told = Vec::new(alloc);
-    let mut stage = Stage::Nothing;
+    let mut stage = ScriptStage::Nothing;
     match play(rt, alloc, &mut stage, script, &mut told) {
         Ok(()) => Ok(told),
         Err(none) => Err(none),
@@ -136,5 +152,9 @@ fn main(rt: HostRuntime) -> io::Result<()> {
     rt.reader().read_to_end(&mut script)?;
     let lines = script.as_slice();
     let told = played(&rt, alloc, lines.strip_suffix(b"\n").unwrap_or(lines))?;
-    io::writer(&rt).write_all(told.as_slice())
+    io::writer(&rt).write_all(told.as_slice())?;
+    match threads::play(&rt, alloc) {
+        Ok(text) => io::writer(&rt).write_all(text.as_slice()),
+        Err(_) => io::writer(&rt).write_all(b"no home\n"),
+    }
 }

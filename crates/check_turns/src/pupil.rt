@@ -1,10 +1,10 @@
 //! A half to which items come.
 ghost use Rattle.std.specs.Prelude.{◌≡◌, length, nat_le, refl};
 
-use flow_core::{Flow, FlowKind};
 use lane_core::{Carried, NoMemory};
 use pc_base::{Place, SliceNo, Slot};
 use std::sync::Wait;
+use worker_core::{DataKind, DataTraveller};
 
 /// An item that a half handles once it knows so much.
 #[derive(Clone, Copy)]
@@ -33,7 +33,7 @@ pub struct Pupil {
 
 impl Carried for Pupil {}
 
-impl FlowKind for Pupil {
+impl DataKind for Pupil {
     type Item = Task;
 
     ghost slot_of_half = { λ pupil. pupil.slot };
@@ -49,7 +49,7 @@ impl FlowKind for Pupil {
     }
 }
 
-impl Flow for Pupil {
+impl DataTraveller for Pupil {
     type Name = Slot;
 
     ghost name = { λ pupil. pupil.slot };

@@ -4,20 +4,20 @@ use text_fields::{cut, next_piece, read_number};
 
 /// A step: its letter, and three numbers below 2^32. One that isn't there is 0.
 #[derive(Clone, Copy)]
-pub struct Step {
+pub struct ScriptStep {
     pub letter: u8,
     pub one: u32,
     pub two: u32,
     pub three: u32,
 }
 
-impl Step {
-    pub fn read(line: &[u8]) -> Step {
+impl ScriptStep {
+    pub fn read(line: &[u8]) -> ScriptStep {
         let (word, left) = cut(b' ', line);
         let (one, left) = next_piece(b' ', left).unwrap_or((&[], None));
         let (two, left) = next_piece(b' ', left).unwrap_or((&[], None));
         let (three, _) = next_piece(b' ', left).unwrap_or((&[], None));
-        Step {
+        ScriptStep {
             letter: word.first().copied().unwrap_or(0),
             one: number(one),
             two: number(two),

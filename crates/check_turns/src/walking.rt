@@ -4,8 +4,8 @@ ghost use Rattle.worker_core.specs.Workers.{worker_lanes};
 ghost use Rattle.worker_core.specs.Desks.{lanes_of};
 ghost use Rattle.migration.specs.Words.{desks_of};
 
-use crate::answers::{Stop, letter_of, numbers, push_numbers, word_of, yes_or_no};
-use crate::step::{Step, slice_of, slot_of};
+use crate::answers::{StepStop, letter_of, numbers, push_numbers, word_of, yes_or_no};
+use crate::step::{ScriptStep, slice_of, slot_of};
 use crate::walker::Walker;
 use gather_home::gather;
 use lane_core::{Did, NoMemory};
@@ -26,7 +26,7 @@ pub struct Walk {
 }
 
 impl Walk {
-    pub fn new(alloc: Global) -> Result<Walk, Stop> {
+    pub fn new(alloc: Global) -> Result<Walk, StepStop> {
         let (one, first) = pair(alloc, SliceNo(0))?;
         let (two, second) = pair(alloc, SliceNo(1))?;
         let (three, third) = pair(alloc, SliceNo(2))?;
@@ -48,7 +48,7 @@ impl Walk {
     }
 
     // Admits a half with so much to do, if its slot is free.
-    fn admit<R: Wait>(&mut self, rt: &R, step: Step) -> bool {
+    fn admit<R: Wait>(&mut self, rt: &R, step: ScriptStep) -> bool {
         let slot = slot_of(step.one);
         let slice = slice_of(step.two);
         if self.side.is_admitted(slot)
@@ -69,7 +69,7 @@ impl Walk {
     }
 
     // Moves a slot, which leaves at a count, if it is admitted.
-    fn go<R: Wait>(&mut self, rt: &R, step: Step) -> bool {
+    fn go<R: Wait>(&mut self, rt: &R, step: ScriptStep) -> bool {
         let slot = slot_of(step.one);
         let slice = slice_of(step.two);
         if !self.side.is_admitted(slot)
@@ -83,7 +83,12 @@ impl Walk {
     }
 
     // Turns of a worker, and what each came to.
-    fn turns<R: Wait>(&mut self, rt: &R, alloc: Global, step: Step) -> Result<Text, Stop> {
+    fn turns<R: Wait>(
+        &mut self,
+        rt: &R,
+        alloc: Global,
+        step: ScriptStep,
+    ) -> Result<Text, StepStop> {
         let mut text = Text::new(alloc);
         for _ in 0..step.two {
             let did = self.turn(rt, slice_of(step.one));
@@ -94,7 +99,12 @@ impl Walk {
 
     /// An admission (a), a move (g), turns of a worker (w), a pumping (p), whether a slot is settled (s), and how often
     /// the side was asked (c).
-    pub fn play<R: Wait>(&mut self, rt: &R, alloc: Global, step: Step) -> Result<Text, Stop> {
+    pub fn play<R: Wait>(
+        &mut self,
+        rt: &R,
+        alloc: Global,
+        step: ScriptStep,
+    ) -> Result<Text, StepStop> {
         match step.letter {
             b'a' => {
                 let took = self.admit(rt, step);
@@ -111,13 +121,13 @@ impl Walk {
             }
             b's' => yes_or_no(alloc, self.side.settled(slot_of(step.one))),
             b'c' => numbers(alloc, &[self.side.asked()]),
-            _ => Err(Stop::Step),
+            _ => Err(StepStop::Step),
         }
     }
 
     /// The slots that each worker holds, in their order, and then of all halves that come home the slot, what they
     /// had to do and what they did, their hop, and their turns.
-    pub fn end<R: Wait>(self, rt: &R, alloc: Global) -> Result<Text, Stop> {
+    pub fn end<R: Wait>(self, rt: &R, alloc: Global) -> Result<Text, StepStop> {
         let ends = Vec::from_array(
             alloc,
             [
@@ -129,7 +139,7 @@ impl Walk {
         let mut text = Text::new(alloc);
         let held = push_all_held(&mut text, &ends);
         let Ok(halves) = gather(rt, alloc, self.side.into_end(), ends) else {
-            return Err(Stop::NoMemory);
+            return Err(StepStop::NoMemory);
         };
         held?;
         push_halves(&mut text, &halves)?;

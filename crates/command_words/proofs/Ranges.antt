@@ -10,8 +10,8 @@ use Rattle.command_words.specs.Options.{Given, given_once, has_flag, value_of}
 use Rattle.command_words.specs.Turns.{comma, last_worker, most_turns, numbers_in, turns_asked, turns_in}
 use Rattle.command_words.specs.Words.{Text}
 use Rattle.command_words.specs.declared.jobs.Lanes.{Lanes}
-use Rattle.command_words.specs.declared.turns.Turns.{Turns}
-use Rattle.command_words.specs.declared.turns.Turns.TheVariants as asked
+use Rattle.command_words.specs.declared.turns.AskedTurns.{AskedTurns}
+use Rattle.command_words.specs.declared.turns.AskedTurns.TheVariants as asked
 use Rattle.command_words.specs.declared.jobs.Job.{Job}
 use Rattle.command_words.specs.declared.jobs.Job.TheVariants as job
 use Rattle.command_words.proofs.Emptiness.{both}
@@ -169,7 +169,7 @@ listed_range slices text turns some is = go (nat_le (length (pieces comma text))
         let many : length turns ≡ length (pieces comma text) = are.counted in
         (omega arith, below_twice slices turns some are.low)
 
-turns_range : (slices : ℕ) (turns seed per : Option Text) (found : Turns) → 1 ≤ slices
+turns_range : (slices : ℕ) (turns seed per : Option Text) (found : AskedTurns) → 1 ≤ slices
     → turns_asked slices turns seed per ≡ Some found → TurnsInRange slices found
 turns_range slices None None None found some is =
     let same : asked.NoTurns ≡ found = cc in subst (TurnsInRange slices) same tt
@@ -200,7 +200,7 @@ turns_range slices (Some turns) (Some seed) (Some per) found some is = absurd (c
 drive_keeps : (given : List Given) (asked : Job) → drive_job given ≡ Some asked → IsInRange asked
 drive_keeps given asked is = go (lanes_of given) refl is
   where
-    by_turns : (lanes : Lanes) (turns : Option Turns) → LanesInRange lanes → turns_of lanes.slices given ≡ turns
+    by_turns : (lanes : Lanes) (turns : Option AskedTurns) → LanesInRange lanes → turns_of lanes.slices given ≡ turns
         → option_map (λ turns. job.Drive lanes turns (has_flag (codes "places") given)) turns ≡ Some asked
         → IsInRange asked
     by_turns lanes None range known e = absurd (cc)

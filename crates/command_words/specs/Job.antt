@@ -7,8 +7,8 @@ use Rattle.text_fields.specs.Number.{number_in}
 use Rattle.command_words.specs.Options.{Form, Given, given_once, has_flag, value_of, with_value, without_value}
 use Rattle.command_words.specs.Turns.{turns_asked}
 use Rattle.command_words.specs.Words.{Text}
-use Rattle.command_words.specs.declared.turns.Turns.{Turns}
-use Rattle.command_words.specs.declared.turns.Turns.TheVariants as asked
+use Rattle.command_words.specs.declared.turns.AskedTurns.{AskedTurns}
+use Rattle.command_words.specs.declared.turns.AskedTurns.TheVariants as asked
 use Rattle.command_words.specs.declared.jobs.Lanes.{Lanes}
 use Rattle.command_words.specs.declared.jobs.Job.{Job}
 use Rattle.command_words.specs.declared.jobs.Job.TheVariants as job
@@ -41,7 +41,7 @@ lanes_of given = lanes_by (value_of (codes "slices") given) (value_of (codes "ro
     (value_of (codes "lane") given)
 
 -- the turns of `drive`
-abbrev pub turns_of : ℕ → List Given → Option Turns
+abbrev pub turns_of : ℕ → List Given → Option AskedTurns
 turns_of slices given = turns_asked slices (value_of (codes "turns") given) (value_of (codes "seed") given)
     (value_of (codes "per") given)
 
@@ -160,7 +160,7 @@ abbrev pub job_of : List Text → Option Job
 job_of words = option_and_then (λ asking. asking.0.job asking.1) (asked_of commands words)
 
 -- listed turns are some workers', and not too many; few are drawn behind each line
-abbrev pub TurnsInRange : ℕ → Turns → Type 0
+abbrev pub TurnsInRange : ℕ → AskedTurns → Type 0
 TurnsInRange slices asked.NoTurns = Unit {0}
 TurnsInRange slices (asked.Listed turns) = (length turns ≤ 1024) × All (λ turn. turn < 2 * slices) turns
 TurnsInRange slices (asked.Drawn seed per) = per ≤ 64

@@ -4,8 +4,8 @@ use Rattle.std.specs.Prelude.{option_map, if◌then◌else◌}
 use Rattle.text_fields.specs.Fields.{pieces}
 use Rattle.text_fields.specs.Number.{number_in}
 use Rattle.command_words.specs.Words.{Text}
-use Rattle.command_words.specs.declared.turns.Turns.{Turns}
-use Rattle.command_words.specs.declared.turns.Turns.TheVariants as asked
+use Rattle.command_words.specs.declared.turns.AskedTurns.{AskedTurns}
+use Rattle.command_words.specs.declared.turns.AskedTurns.TheVariants as asked
 
 -- what stands between turns, and how many there may be
 abbrev pub comma : ℕ
@@ -30,12 +30,12 @@ abbrev pub last_worker : ℕ → ℕ
 last_worker slices = 2 * slices - 1
 
 -- turns drawn from a seed, so many behind each line
-abbrev pub drawn : Text → Text → Option Turns
+abbrev pub drawn : Text → Text → Option AskedTurns
 drawn seed per = option_and_then (λ from. option_map (λ each. asked.Drawn from each) (number_in 0 64 per))
     (number_in 0 18446744073709551615 seed)
 
 -- the turns of a command line, by the texts of `turns`, `seed` and `per`: they are listed or drawn, or there are none
-abbrev pub turns_asked : ℕ → Option Text → Option Text → Option Text → Option Turns
+abbrev pub turns_asked : ℕ → Option Text → Option Text → Option Text → Option AskedTurns
 turns_asked slices None None None = Some asked.NoTurns
 turns_asked slices None None (Some per) = None
 turns_asked slices None (Some seed) None = None

@@ -1,6 +1,6 @@
 //! What the program may be asked to do.
 
-use crate::turns::Turns;
+use crate::turns::AskedTurns;
 
 /// Lanes between workers: 1 to 64 slices, room for 1 to 256 items of a subscriber, and for 1 to 16,384 of a slice.
 #[derive(Clone, Copy, Debug, PartialEq, Eq)]
@@ -18,7 +18,7 @@ pub enum Job {
     /// `drive`: replay a trace under a schedule, on one thread, with the places of packets in the report or without.
     Drive {
         lanes: Lanes,
-        turns: Turns,
+        turns: AskedTurns,
         places: bool,
     },
     /// `replay`: replay a trace over slices in threads, with the places of packets in the report or without. A line

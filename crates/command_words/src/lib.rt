@@ -8,5 +8,5 @@ mod turns;
 mod words;
 
 pub use crate::jobs::{Job, Lanes};
-pub use crate::turns::{TurnList, Turns};
+pub use crate::turns::{AskedTurns, TurnList};
 pub use crate::words::job;

@@ -2,7 +2,7 @@
 ghost use Rattle.std.specs.Prelude.{◌≡◌, ◌==◌, ◌<◌, ◌^◌, count_by, length, nat_le, option_map, IfOk};
 ghost use Rattle.text_fields.specs.Fields.{pieces};
 ghost use Rattle.text_fields.specs.Number.{number_in};
-ghost use Rattle.command_words.specs.declared.turns.Turns.TheVariants as asked;
+ghost use Rattle.command_words.specs.declared.turns.AskedTurns.TheVariants as asked;
 ghost use Rattle.command_words.specs.Turns.{comma, drawn, most_turns, numbers_in, turns_in};
 
 use std::alloc::{AllocError, Global};
@@ -42,7 +42,7 @@ impl TurnList {
 
 /// Which turns stand behind each line. A worker's number is below twice the number of slices.
 #[derive(Drop)]
-pub enum Turns {
+pub enum AskedTurns {
     /// None.
     NoTurns,
     /// 1 to 1,024 turns, the same behind each line.
@@ -103,22 +103,22 @@ fn listed(alloc: Global, text: &[u8], last: u64) -> Result<Option<TurnList>, All
 }
 
 /// The same as turns of a command line.
-pub fn listed_turns(alloc: Global, text: &[u8], last: u64) -> Result<Option<Turns>, AllocError>
+pub fn listed_turns(alloc: Global, text: &[u8], last: u64) -> Result<Option<AskedTurns>, AllocError>
     requires { last < 2 ^ 32 }
     ensures { IfOk result (λ turns. turns ≡ option_map asked.Listed (turns_in last text.now)) }
 {
     match listed(alloc, text, last)? {
-        Some(turns) => Ok(Some(Turns::Listed(turns))),
+        Some(turns) => Ok(Some(AskedTurns::Listed(turns))),
         None => Ok(None),
     }
 }
 
 /// Turns drawn from the seed that a text is, so many behind each line as another text says; None where one is no such
 /// number.
-pub fn drawn(seed: &[u8], per: &[u8]) -> Option<Turns>
+pub fn drawn(seed: &[u8], per: &[u8]) -> Option<AskedTurns>
     ensures { result ≡ drawn seed.now per.now }
 {
     let seed = read_number(seed, 0, u64::MAX)?;
     let per = small_in(per, 64)?;
-    Some(Turns::Drawn { seed, per })
+    Some(AskedTurns::Drawn { seed, per })
 }

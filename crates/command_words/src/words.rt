@@ -17,7 +17,7 @@ ghost use Rattle.command_words.specs.Words.{Text, is_stray, word_of};
 
 use crate::jobs::{Job, Lanes};
 use crate::program::program;
-use crate::turns::{Turns, drawn, listed_turns};
+use crate::turns::{AskedTurns, drawn, listed_turns};
 use clap::ArgMatches;
 use clap::error::ErrorKind;
 use std::alloc::{AllocError, Global};
@@ -205,7 +205,11 @@ fn replay_job(matches: &ArgMatches<'_>) -> Option<Job>
 }
 
 // The turns that are listed or drawn; None where both are asked for, or half of what is drawn.
-fn turns(alloc: Global, matches: &ArgMatches<'_>, slices: u8) -> Result<Option<Turns>, AllocError>
+fn turns(
+    alloc: Global,
+    matches: &ArgMatches<'_>,
+    slices: u8,
+) -> Result<Option<AskedTurns>, AllocError>
     requires some { 1 ≤ slices }
     requires few { slices ≤ 64 }
     ensures { IfOk result (λ turns. turns ≡ turns_asked slices (first_value (found_of matches.now) (codes "turns"))
@@ -217,7 +221,7 @@ fn turns(alloc: Global, matches: &ArgMatches<'_>, slices: u8) -> Result<Option<T
         matches.get_str("seed"),
         matches.get_str("per"),
     ) {
-        (None, None, None) => Ok(Some(Turns::NoTurns)),
+        (None, None, None) => Ok(Some(AskedTurns::NoTurns)),
         (Some(text), None, None) => listed_turns(alloc, text.as_bytes(), last),
         (None, Some(seed), Some(per)) => Ok(drawn(seed.as_bytes(), per.as_bytes())),
         _ => Ok(None),

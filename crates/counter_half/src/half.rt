@@ -1,13 +1,13 @@
 //! The half that a subscriber's packets meet.
 ghost use Rattle.std.specs.Prelude.{◌≡◌};
 
-use crate::inner::FlowInner;
+use crate::inner::DataInner;
 use pc_base::Slot;
 
-/// A subscriber's counter half. What it holds lies behind one pointer, since halves are handed from slice to slice.
+/// A subscriber's data half. What it holds lies behind one pointer, since halves are handed from slice to slice.
 #[derive(Drop)]
-pub struct FlowHalf {
+pub struct DataHalf {
     pub(crate) slot: Slot,
-    pub(crate) inner: Box<FlowInner>,
+    pub(crate) inner: Box<DataInner>,
     ghost of_slot: { slot ≡ inner.value.state.started.session.slot },
 }

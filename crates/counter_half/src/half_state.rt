@@ -5,12 +5,12 @@ ghost use Rattle.counter_half.specs.Tells.{TellsLawfully};
 ghost use Rattle.counter_half.specs.Learnt.{learnt_in};
 
 use crate::start::Start;
-use crate::{FlowItem, PacketDone, VersionDone};
+use crate::{DataItem, PacketDone, VersionDone};
 use bearer_state::Version;
 use packet_steps::Counters;
 use worker_core::Log;
 
-/// What a counter half knows, and what it noted, since its subscriber was split. What it learnt and what
+/// What a data half knows, and what it noted, since its subscriber was split. What it learnt and what
 /// it handled, in order, only proofs read.
 #[derive(Drop)]
 pub struct HalfState {
@@ -25,7 +25,7 @@ pub struct HalfState {
     pub notes: Vec<PacketDone>,
     pub effects: Vec<VersionDone>,
     pub(crate) learnt: Log<Version, u64>,
-    pub(crate) handled: Log<FlowItem, u64>,
+    pub(crate) handled: Log<DataItem, u64>,
     pub ghost handles: { HasHandled started.version.number started.packets (learnt_in learnt.items)
         handled.items met done notes.items },
     pub ghost tells: { TellsLawfully started

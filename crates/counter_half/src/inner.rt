@@ -1,4 +1,4 @@
-//! What a counter half holds beside its slot.
+//! What a data half holds beside its slot.
 ghost use Rattle.std.specs.Prelude.{◌≡◌, ◌≤◌, ◌^◌, ◌++◌, length};
 ghost use Rattle.lane_core.specs.Ends.{taken};
 ghost use Rattle.control_half.specs.Published.{in_batches, in_kept};
@@ -12,7 +12,7 @@ use lane_core::Receiver;
 
 /// What the half knows and noted, and its versions on their way in.
 #[derive(Drop)]
-pub struct FlowInner {
+pub struct DataInner {
     pub(crate) state: HalfState,
     /// A batch that was taken and isn't learnt, or not whole.
     pub(crate) batch: Option<Batch<Version>>,

@@ -5,7 +5,7 @@ use pc_base::{Packet, Place, Slot, Verdict};
 
 /// A packet on its way.
 #[derive(Debug, Drop)]
-pub struct FlowItem {
+pub struct DataItem {
     pub slot: Slot,
     /// Its place among the packets of its subscriber.
     pub number: u64,
@@ -18,7 +18,7 @@ pub struct FlowItem {
     pub packet: Packet,
 }
 
-impl Carried for FlowItem {}
+impl Carried for DataItem {}
 
 /// The verdict on the packet of this number, behind so many commands; and where it was handled.
 #[derive(Debug, Drop, PartialEq, Eq)]

@@ -2,21 +2,21 @@
 ghost use Rattle.std.specs.Prelude.{◌≡◌, ◌≢◌, ◌+◌, ◌<◌, ◌≤◌, ◌⊎◌, [], ◌∷◌, ◌++◌, true, false};
 ghost use Rattle.std.specs.Prelude.{None, Ok, length, IfOk, OnOk, OnErr, IsTrue, IsFalse};
 ghost use Rattle.lane_core.specs.Ends.{taken, empty_answers, raised};
-ghost use Rattle.flow_core.specs.Counts.{learns_after};
-ghost use Rattle.counter_half.specs.declared.items.FlowItem.{FlowItem};
+ghost use Rattle.worker_core.specs.DataCounts.{learns_after};
+ghost use Rattle.counter_half.specs.declared.items.DataItem.{DataItem};
 ghost use Rattle.control_half.specs.Turns.{size as left_in};
 ghost use Rattle.pc_base.specs.declared.packet.Place.TheVariants as places;
 
-use crate::half::FlowHalf;
-use crate::inner::FlowInner;
-use crate::{FlowItem, NoMemory};
+use crate::half::DataHalf;
+use crate::inner::DataInner;
+use crate::{DataItem, NoMemory};
 use pc_base::{Place, SliceNo};
 use std::sync::Wait;
 
 /// How many packets a half handles at most.
 const MOST_PACKETS: usize = 0x4_0000_0000_0000;
 
-impl FlowHalf {
+impl DataHalf {
     ghost use Rattle.counter_half.specs.Half.{name_of, handled_by, places_of, may_take, asks_of};
     ghost use Rattle.counter_half.specs.Half.{learns_of, batches_of, HalfStops, Judges};
 
@@ -31,7 +31,7 @@ impl FlowHalf {
         ensures asks { asks_of self.new ≡ raised (asks_of self.old) }
         ensures learns { learns_of self.new ≡ learns_after result (learns_of self.old) }
         ensures done { self.new.inner.value.state.done ≡ self.old.inner.value.state.done }
-        ensures takes { result ≡ Ok false → (item : FlowItem) → may_take self.new item ≡ may_take self.old item }
+        ensures takes { result ≡ Ok false → (item : DataItem) → may_take self.new item ≡ may_take self.old item }
 
         // How many batches were learnt, and why no more.
         ensures more { IfOk result (λ learnt. learnt ≡ true → batches_of self.old < batches_of self.new) }
@@ -45,7 +45,7 @@ impl FlowHalf {
     }
 
     /// Whether it has learnt as many commands as an item asks for, and may handle one more.
-    pub fn may_handle(&self, item: &FlowItem) -> bool
+    pub fn may_handle(&self, item: &DataItem) -> bool
         ensures { result ≡ may_take self.now item.now }
     {
         self.inner.may_handle(item)
@@ -53,7 +53,7 @@ impl FlowHalf {
 
     /// Handles an item at a slice, at the last one's moment where its own is earlier. When out of memory,
     /// nothing changes.
-    pub fn handle(&mut self, place: SliceNo, item: &FlowItem) -> Result<(), NoMemory>
+    pub fn handle(&mut self, place: SliceNo, item: &DataItem) -> Result<(), NoMemory>
         requires { may_take self.old item.now ≡ true }
 
         ensures name { name_of self.new ≡ name_of self.old }
@@ -70,7 +70,7 @@ impl FlowHalf {
     }
 }
 
-impl FlowInner {
+impl DataInner {
     ghost use Rattle.counter_half.specs.Half.{inner_name, inner_handled, inner_places, inner_takes, batches_learnt};
     ghost use Rattle.counter_half.specs.Half.{IsReady, HasNoMore, Stops, JudgesInner};
 
@@ -98,13 +98,13 @@ impl FlowInner {
         Ok(learnt)
     }
 
-    fn may_handle(&self, item: &FlowItem) -> bool
+    fn may_handle(&self, item: &DataItem) -> bool
         ensures { result ≡ inner_takes self.now item.now }
     {
         item.floor <= self.state.met && self.state.notes.len() < MOST_PACKETS
     }
 
-    fn handle(&mut self, place: SliceNo, item: &FlowItem) -> Result<(), NoMemory>
+    fn handle(&mut self, place: SliceNo, item: &DataItem) -> Result<(), NoMemory>
         requires { inner_takes self.old item.now ≡ true }
 
         ensures name { inner_name self.new ≡ inner_name self.old }

@@ -3,7 +3,7 @@
 //! others.
 #![tactic(auto)]
 
-mod flowing;
+mod data_travelling;
 mod half;
 mod half_state;
 mod inner;
@@ -15,9 +15,9 @@ mod meeting;
 mod name;
 mod start;
 
-pub use half::FlowHalf;
+pub use half::DataHalf;
 pub use half_state::HalfState;
-pub use items::{FlowItem, PacketDone, VersionDone};
-pub use making::FlowRest;
-pub use name::FlowName;
+pub use items::{DataItem, PacketDone, VersionDone};
+pub use making::DataRest;
+pub use name::DataName;
 pub use std::alloc::AllocError as NoMemory;

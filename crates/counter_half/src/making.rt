@@ -5,9 +5,9 @@ ghost use Rattle.control_half.specs.Published.{in_batches, in_kept};
 ghost use Rattle.counter_half.specs.Learnt.{learnt_in};
 ghost use Rattle.counter_half.specs.Named.{started};
 
-use crate::half::FlowHalf;
+use crate::half::DataHalf;
 use crate::half_state::HalfState;
-use crate::inner::FlowInner;
+use crate::inner::DataInner;
 use crate::start::Start;
 use bearer_state::{Session, Version};
 use control_half::Batch;
@@ -17,7 +17,7 @@ use worker_core::Log;
 
 /// What is left of a half that is turned no more.
 #[derive(Drop)]
-pub struct FlowRest {
+pub struct DataRest {
     pub state: HalfState,
     pub batch: Option<Batch<Version>>,
     pub versions: Receiver<Batch<Version>>,
@@ -25,7 +25,7 @@ pub struct FlowRest {
     pub ghost few: { (state.started.version.number ≤ 2 ^ 60) × (state.started.packets ≤ 2 ^ 60) },
 }
 
-impl FlowHalf {
+impl DataHalf {
     ghost use Rattle.counter_half.specs.Half.{name_of, rest_name, handled_by};
 
     /// The half of a subscriber with a session, version, counters and count of packets, and with its
@@ -36,7 +36,7 @@ impl FlowHalf {
         counters: Counters,
         packets: u64,
         versions: Receiver<Batch<Version>>,
-    ) -> Result<FlowHalf, (Version, Counters)>
+    ) -> Result<DataHalf, (Version, Counters)>
         requires few { (version.number ≤ 2 ^ 60) × (packets ≤ 2 ^ 60) }
         requires new { taken versions ≡ [] }
 
@@ -51,25 +51,25 @@ impl FlowHalf {
     {
         let slot = session.slot;
         let alloc = session.bearers.allocator();
-        let inner = FlowInner::start(session, version, counters, packets, versions);
+        let inner = DataInner::start(session, version, counters, packets, versions);
         match Box::new(alloc, inner) {
-            Ok(inner) => Ok(FlowHalf { slot, inner }),
+            Ok(inner) => Ok(DataHalf { slot, inner }),
             Err(failed) => Err(parts_of(failed.value)),
         }
     }
 
     /// Takes the half apart.
-    pub fn into_rest(self) -> FlowRest
+    pub fn into_rest(self) -> DataRest
         ensures name { rest_name result ≡ name_of self }
         ensures state { result.state ≡ self.inner.value.state }
     {
-        let FlowInner {
+        let DataInner {
             state,
             batch,
             versions,
             ..
         } = Box::into_inner(self.inner);
-        FlowRest {
+        DataRest {
             state,
             batch,
             versions,
@@ -78,10 +78,10 @@ impl FlowHalf {
 }
 
 /// The version and the counters that are held.
-fn parts_of(inner: FlowInner) -> (Version, Counters)
+fn parts_of(inner: DataInner) -> (Version, Counters)
     ensures { (result.0 ≡ inner.state.version) × (result.1 ≡ inner.state.counters) }
 {
-    let FlowInner { state, .. } = inner;
+    let DataInner { state, .. } = inner;
     let HalfState {
         version,
         counters,
@@ -90,7 +90,7 @@ fn parts_of(inner: FlowInner) -> (Version, Counters)
     (version, counters)
 }
 
-impl FlowInner {
+impl DataInner {
     ghost use Rattle.counter_half.specs.Half.{inner_name, inner_handled};
 
     /// What a new half holds.
@@ -100,7 +100,7 @@ impl FlowInner {
         counters: Counters,
         packets: u64,
         versions: Receiver<Batch<Version>>,
-    ) -> FlowInner
+    ) -> DataInner
         requires few { (version.number ≤ 2 ^ 60) × (packets ≤ 2 ^ 60) }
         requires new { taken versions ≡ [] }
         ensures name { inner_name result ≡ record {
@@ -114,7 +114,7 @@ impl FlowInner {
         let alloc = session.bearers.allocator();
         let started = Start::of(session, &version, &counters, packets);
         let met = version.number;
-        FlowInner {
+        DataInner {
             state: HalfState {
                 started,
                 version,

@@ -11,7 +11,7 @@ ghost use Rattle.counter_half.specs.Moments.{later, not_before, IsJudged};
 
 use crate::half_state::HalfState;
 use crate::laws::known_pasts;
-use crate::{FlowItem, NoMemory, PacketDone, VersionDone};
+use crate::{DataItem, NoMemory, PacketDone, VersionDone};
 use bearer_state::Version;
 use control_half::Batch;
 use packet_steps::{Counters, advance, handle};
@@ -63,7 +63,7 @@ impl HalfState {
 
     /// Judges a packet whose floor is met, at the last packet's moment where its own is earlier. Out of memory
     /// nothing changes.
-    pub fn meet(&mut self, place: Place, item: &FlowItem) -> Result<(), NoMemory>
+    pub fn meet(&mut self, place: Place, item: &DataItem) -> Result<(), NoMemory>
         requires floor { item.now.floor ≤ self.old.met }
         requires few { self.old.done < 2 ^ 61 }
 

@@ -2,7 +2,7 @@
 use Rattle.std.proofs.Common.{◌≡◌, ℕ, List, [], ◌∷◌, ◌++◌, append_assoc, append-nil, refl, sym, ap, ◌∙◌}
 use Rattle.std.specs.Prelude.{fold}
 use Rattle.trace_lines.specs.Line.{Line}
-use Rattle.demux.specs.Destinations.{bound_for, home_slice, destination}
+use Rattle.demux.specs.Destinations.{bound_for, start_slice, destination}
 use Rattle.demux.specs.Resolved.{decided, book_after}
 use Rattle.demux.specs.Trace.{book_of, decisions_from, decisions, destination_after, meaning, meanings_from}
 
@@ -29,7 +29,7 @@ pub destination_after-push : (slices slot : ℕ) (lines : List Line) (line : Lin
     ≡ bound_for slot (destination_after slices slot lines) (decided slices (book_of lines) line)
 destination_after-push slices slot lines line =
     ap (destination slices slot) (decisions-push slices lines line)
-    ∙ fold-push (bound_for slot) (home_slice slices slot) (decisions slices lines) (decided slices (book_of lines) line)
+    ∙ fold-push (bound_for slot) (start_slice slices slot) (decisions slices lines) (decided slices (book_of lines) line)
 
 pub meanings_from-push : (slices : ℕ) (before lines : List Line) (line : Line)
     → meanings_from slices before (lines ++ line ∷ []) ≡ meanings_from slices before lines

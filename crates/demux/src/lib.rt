@@ -21,7 +21,7 @@ mod tunnel;
 
 pub use deciding::decide;
 pub use decision::{Decision, Whose};
-pub use destinations::{home_slice, homes};
+pub use destinations::{start_slice, start_slices};
 pub use laws::{line_by_line, meanings_are_in_range, read_requests_are_whole};
 pub use meant::Meant;
 pub use packet::LentPacket;

@@ -5,43 +5,39 @@ ghost use Rattle.demux.specs.Resolved.{bearer_in, addressee_in, decided, resolve
 ghost use Rattle.demux.specs.Tunnel.{tunnel_asked, tunnelled, packet_asked};
 ghost use Rattle.demux.specs.declared.decision.Decision.TheVariants as decision;
 
-use crate::LentPacket;
 use crate::booking::in_book;
 use crate::ends::{addressee, bearer_end};
 use address_book::AddressBook;
 use gtpu_codec::{GtpUKind, read};
 use ipv4_packet::Ip4;
-use pc_base::{Addr4, Moment, Slot, Teid, Way};
+use pc_base::{Addr4, Slot, Teid, Way};
 use trace_lines::{LineKind, TraceLine};
 
-/// The packet that a line means, as `decide` would say, with the slot of its subscriber; None where the line means
-/// something else.
+/// The packet that a line means, as `decide` would say: the slot of its subscriber, its way, and its octets; None where
+/// the line means something else. Its moment is the line's: it is put together where it is used, since each call that
+/// hands a whole one on copies it.
 #[inline(always)]
 #[tactic(auto, unfolding(crate::specs::Line::asked))]
-pub fn packet_of<'a>(book: &AddressBook, line: &'a TraceLine) -> Option<(Slot, LentPacket<'a>)>
+pub fn packet_of<'a>(book: &AddressBook, line: &'a TraceLine) -> Option<(Slot, Way, Ip4<'a>)>
     ensures { (slices : ℕ) → IfSome result (λ found. decided slices book.now line.now
-        ≡ decision.Packet found.0 found.1) }
+        ≡ decision.Packet found.0 (record { moment = line.now.moment; way = found.1; ip = found.2 })) }
 {
     match &line.kind {
-        LineKind::S1u => tunnelled(book, line.moment, line.octets.as_slice()),
-        LineKind::Sgi => delivered(book, line.moment, line.octets.as_slice()),
+        LineKind::S1u => tunnelled(book, line.octets.as_slice()),
+        LineKind::Sgi => delivered(book, line.octets.as_slice()),
         _ => None,
     }
 }
 
 // A packet that an eNodeB sent up.
 #[inline(always)]
-fn tunnelled<'a>(
-    book: &AddressBook,
-    moment: Moment,
-    octets: &'a [u8],
-) -> Option<(Slot, LentPacket<'a>)>
-    ensures { (slices : ℕ) → IfSome result (λ found. resolved slices book.now (tunnel_asked moment octets.now)
-        ≡ decision.Packet found.0 found.1) }
+fn tunnelled<'a>(book: &AddressBook, octets: &'a [u8]) -> Option<(Slot, Way, Ip4<'a>)>
+    ensures { (slices moment : ℕ) → IfSome result (λ found. resolved slices book.now (tunnel_asked moment octets.now)
+        ≡ decision.Packet found.0 (record { moment = moment; way = found.1; ip = found.2 })) }
 {
     match read(octets) {
         Ok((head, body)) => match head.kind {
-            GtpUKind::Gpdu => carried(book, moment, head.teid, body),
+            GtpUKind::Gpdu => carried(book, head.teid, body),
             _ => None,
         },
         Err(_) => None,
@@ -50,21 +46,13 @@ fn tunnelled<'a>(
 
 // The same by the TEID of its tunnel.
 #[inline(always)]
-fn carried<'a>(
-    book: &AddressBook,
-    moment: Moment,
-    teid: Teid,
-    payload: &'a [u8],
-) -> Option<(Slot, LentPacket<'a>)>
-    ensures { (slices : ℕ) → IfSome result (λ found. resolved slices book.now (tunnelled moment teid payload.now)
-        ≡ decision.Packet found.0 found.1) }
+fn carried<'a>(book: &AddressBook, teid: Teid, payload: &'a [u8]) -> Option<(Slot, Way, Ip4<'a>)>
+    ensures { (slices moment : ℕ) → IfSome result (λ found. resolved slices book.now (tunnelled moment teid payload.now)
+        ≡ decision.Packet found.0 (record { moment = moment; way = found.1; ip = found.2 })) }
 {
     match bearer_in_book(book, teid) {
         Some(end) => match Ip4::read(payload) {
-            Ok(ip) => {
-                let way = Way::Up(end.1);
-                Some((end.0, LentPacket { moment, way, ip }))
-            }
+            Ok(ip) => Some((end.0, Way::Up(end.1), ip)),
             Err(_) => None,
         },
         None => None,
@@ -73,20 +61,13 @@ fn carried<'a>(
 
 // A packet of the internet.
 #[inline(always)]
-fn delivered<'a>(
-    book: &AddressBook,
-    moment: Moment,
-    octets: &'a [u8],
-) -> Option<(Slot, LentPacket<'a>)>
-    ensures { (slices : ℕ) → IfSome result (λ found. resolved slices book.now (packet_asked moment octets.now)
-        ≡ decision.Packet found.0 found.1) }
+fn delivered<'a>(book: &AddressBook, octets: &'a [u8]) -> Option<(Slot, Way, Ip4<'a>)>
+    ensures { (slices moment : ℕ) → IfSome result (λ found. resolved slices book.now (packet_asked moment octets.now)
+        ≡ decision.Packet found.0 (record { moment = moment; way = found.1; ip = found.2 })) }
 {
     match Ip4::read(octets) {
         Ok(ip) => match addressee_in_book(book, Addr4(ip.destination())) {
-            Some(slot) => {
-                let way = Way::Down;
-                Some((slot, LentPacket { moment, way, ip }))
-            }
+            Some(slot) => Some((slot, Way::Down, ip)),
             None => None,
         },
         Err(_) => None,

@@ -10,7 +10,7 @@ use Rattle.demux.specs.Texts.{move_note}
 use Rattle.demux.specs.Trace.{move, note, book_of, destination_after}
 use Rattle.demux.proofs.TraceLemmas.{destination_after-push}
 use Rattle.lawful_run.specs.Trace.{meant_from, meant_next}
-use Rattle.driven_run.specs.Runs.{bound_by, bounds_behind}
+use Rattle.epoch_drive.specs.Runs.{bound_by, bounds_behind}
 use Rattle.subscriber.specs.Standing.{SubscriberState}
 use Rattle.at_rest.specs.Rest.{destination_or}
 use Rattle.at_rest.proofs.Turning.{meant_by}

@@ -14,32 +14,32 @@ use Rattle.lawful_run.specs.Merging.{Histories, events_in, merged}
 use Rattle.lawful_run.specs.Outcomes as made_of
 use Rattle.lawful_run.specs.Report.{EpochReport}
 use Rattle.lawful_run.specs.Run.{by_slot, told_in}
-use Rattle.epoch_join.specs.Filling as fill
-use Rattle.epoch_join.specs.Joined.{epoch_of, events_joined, with_counts}
-use Rattle.epoch_join.proofs.Joining.{events_same, pieces_join}
-use Rattle.slice_schedule.specs.Schedule.{outcomes}
-use Rattle.slice_schedule.specs.Slots.{Met}
-use Rattle.slice_schedule.specs.Tallies.{no_tally, AreDue}
-use Rattle.slice_schedule.specs.World.{Rooms, start}
-use Rattle.slice_schedule.proofs.Due.{each_outcome_is_due}
-use Rattle.schedule_run.specs.Plan as plans
-use Rattle.driven_run.specs.Driven.{IsDriven, driven, mets_driven}
-use Rattle.driven_run.proofs.Forms.{filled_tell}
-use Rattle.driven_run.proofs.Owing.{lines_lawful, untold}
-use Rattle.driven_run.proofs.There as there
+use Rattle.lawful_run.specs.Filling as fill
+use Rattle.lawful_run.specs.Joined.{epoch_of, events_joined, with_counts}
+use Rattle.lawful_run.proofs.Joining.{events_same, pieces_join}
+use Rattle.epoch_schedule.specs.Schedule.{outcomes}
+use Rattle.epoch_schedule.specs.Slots.{Met}
+use Rattle.epoch_schedule.specs.Tallies.{no_tally, AreDue}
+use Rattle.epoch_schedule.specs.World.{Rooms, start}
+use Rattle.epoch_schedule.proofs.Due.{each_outcome_is_due}
+use Rattle.epoch_schedule.specs.Plan as plans
+use Rattle.epoch_drive.specs.Driven.{IsDriven, driven, mets_driven}
+use Rattle.epoch_drive.proofs.Forms.{filled_tell}
+use Rattle.epoch_drive.proofs.Owing.{lines_lawful, untold}
+use Rattle.epoch_drive.proofs.There as there
 use Rattle.subscriber.specs.Standing.{SubscriberState, commands_met}
-use Rattle.slot_replay.specs.Replaying.{counts_in, counts_of, effects_told, places_of}
-use Rattle.slot_replay.specs.declared.placed.Placed.{Placed}
+use Rattle.slot_execution.specs.Replaying.{counts_in, counts_of, effects_told, places_of}
+use Rattle.slot_execution.specs.declared.placed.Placed.{Placed}
 use Rattle.epoch_drive.specs.Joins as joins
 use Rattle.at_rest.specs.Meant.{AreStanding}
-use Rattle.driven_run.specs.Opened.{open_entries}
+use Rattle.epoch_drive.specs.DrivenOpened.{open_entries}
 use Rattle.epoch_drive.specs.Opened.{opened}
 use Rattle.epoch_drive.specs.Replays.{HasDone, HaveDone, commands_at, commands_shared, events_shared, packets_at, packets_shared}
 use Rattle.epoch_drive.specs.Shares.{AreShares, IsShare, base_at, packets_alone, packets_lent}
-use Rattle.slot_replay.specs.Replaying.{rows_told}
+use Rattle.slot_execution.specs.Replaying.{rows_told}
 use Rattle.epoch_drive.specs.Telling.{line_told}
-use Rattle.epoch_drive.specs.declared.epoch.Entry.{Entry}
-use Rattle.epoch_drive.specs.declared.replays.Answers.{Answers}
+use Rattle.epoch_drive.specs.declared.epoch.DrivenEntry.{DrivenEntry}
+use Rattle.epoch_drive.specs.declared.replays.SlotReplays.{SlotReplays}
 use Rattle.epoch_drive.specs.declared.replays.Replays.{Replays}
 use Rattle.epoch_drive.specs.declared.sharing.Share.{Share}
 use Rattle.epoch_drive.proofs.Events.{mets_list, opened_lines, packets_counted, replies_list, with_none}
@@ -135,7 +135,7 @@ module _ (rooms : Rooms) (bounds : ℕ → ℕ) (turns : List (List ℕ)) (first
 -- subscribers did theirs, and entries were filled with what was told.
 pub record Drove (rooms : Rooms) (bounds : ℕ → ℕ) (turns : List (List ℕ)) (first : ℕ) (made : List Meaning)
     (old new : List SubscriberState) (plan : plans.Plan) (shares : List Share) (replays : Replays)
-    (told : List Entry) : Type 0 where
+    (told : List DrivenEntry) : Type 0 where
   pub outs_are : plan.outcomes ≡ outcomes rooms bounds start (driven made turns)
   pub mets_are : (slot : ℕ) → plans.mets_of plan slot ≡ mets_driven rooms bounds turns made slot
   pub many : length shares ≡ length old
@@ -150,7 +150,7 @@ pub record Drove (rooms : Rooms) (bounds : ℕ → ℕ) (turns : List (List ℕ)
 
 module _ (rooms : Rooms) (bounds : ℕ → ℕ) (turns : List (List ℕ)) (first : ℕ) (before : Histories)
     (made : List Meaning) (old new : List SubscriberState) (plan : plans.Plan) (shares : List Share)
-    (replays : Replays) (told : List Entry)
+    (replays : Replays) (told : List DrivenEntry)
     (drove : Drove rooms bounds turns first made old new plan shares replays told)
     (standing : AreStanding old before) where
   abbrev own_lines : List LineTold
@@ -247,14 +247,14 @@ module _ (rooms : Rooms) (bounds : ℕ → ℕ) (turns : List (List ℕ)) (first
       (omega (arith, past, drove.many, length-map shares packets_shared)) in
       λ i. merged (length (commands_of (before slot))) (length (packets_of (before slot))) (commands i) (packets i)
 
-  done_at : (slot : ℕ) (s : SubscriberState) (a : Answers) → slot < length old
+  done_at : (slot : ℕ) (s : SubscriberState) (a : SlotReplays) → slot < length old
       → HasDone (get_or old slot s) (get_or new slot s) shares (get_or replays.answers.items slot a) slot
   done_at slot s a low = drove.done.each slot s a low
 
   replies_are : (slot : ℕ) → joins.replies_at replays.answers.items slot
       ≡ own_replies rooms bounds turns first before made slot
   replies_are slot =
-      let answers : List Answers = replays.answers.items in
+      let answers : List SlotReplays = replays.answers.items in
       let base : ℕ = length (commands_of (before slot)) in
       elim (cases_lt slot (length old)) [
         | inl low ↦
@@ -276,7 +276,7 @@ module _ (rooms : Rooms) (bounds : ℕ → ℕ) (turns : List (List ℕ)) (first
   mets_are_told : (slot : ℕ) → joins.mets_at replays.answers.items slot
       ≡ own_mets rooms bounds turns first before made slot
   mets_are_told slot =
-      let answers : List Answers = replays.answers.items in
+      let answers : List SlotReplays = replays.answers.items in
       let base : ℕ = count_before before slot in
       let next : ℕ = length (packets_of (before slot)) in
       let mets : List Met = mets_driven rooms bounds turns made slot in

@@ -14,23 +14,23 @@ use Rattle.demux.specs.declared.packet.LentPacket.{LentPacket}
 use Rattle.lawful_run.specs.Accepted as accepted
 use Rattle.lawful_run.specs.LinesTold.{lines_told}
 use Rattle.lawful_run.specs.Run.{no_events}
-use Rattle.slice_schedule.specs.Front.{Outcome}
-use Rattle.slice_schedule.specs.Schedule.{Driven, outcomes, mets}
-use Rattle.slice_schedule.specs.Slots.{Met}
-use Rattle.slice_schedule.specs.World.{Rooms, start}
-use Rattle.schedule_run.specs.Lines.{asked, bound_in, driven_by}
-use Rattle.schedule_run.specs.Plan.{Plan, mets_of}
-use Rattle.schedule_run.specs.TurnsTold.{turns_told}
-use Rattle.schedule_run.specs.declared.ask.Ask.{Ask}
-use Rattle.schedule_run.specs.declared.turns.Turns.{Turns}
-use Rattle.driven_run.specs.Driven.{asks_of, driven, mets_driven}
+use Rattle.epoch_schedule.specs.Front.{Outcome}
+use Rattle.epoch_schedule.specs.Schedule.{Driven, outcomes, mets}
+use Rattle.epoch_schedule.specs.Slots.{Met}
+use Rattle.epoch_schedule.specs.World.{Rooms, start}
+use Rattle.epoch_schedule.specs.Lines.{asked, bound_in, driven_by}
+use Rattle.epoch_schedule.specs.Plan.{Plan, mets_of}
+use Rattle.epoch_schedule.specs.TurnsTold.{turns_told}
+use Rattle.epoch_schedule.specs.declared.ask.LineAsk.{LineAsk}
+use Rattle.epoch_schedule.specs.declared.turns.Turns.{Turns}
+use Rattle.epoch_drive.specs.Driven.{asks_of, driven, mets_driven}
 use Rattle.subscriber.specs.Standing.{SubscriberState, commands_met}
 use Rattle.subscriber.proofs.CountLemmas.{all_counted}
 use Rattle.at_rest.specs.Rest.{AreAtRest, HasEvents, IsAtRest}
 use Rattle.at_rest.specs.Meant.{IsWithin, bound_of}
 use Rattle.epoch_drive.specs.Turned.{TurnedAll}
-use Rattle.epoch_join.specs.Opened.{open_command, open_packet}
-use Rattle.driven_run.specs.Opened.{open_entries}
+use Rattle.lawful_run.specs.Opened.{open_command, open_packet}
+use Rattle.epoch_drive.specs.DrivenOpened.{open_entries}
 use Rattle.epoch_drive.specs.Opened.{opened}
 use Rattle.epoch_drive.specs.Shares.{AreMet}
 use Rattle.epoch_drive.specs.Taken.{AreTaken}
@@ -43,7 +43,7 @@ use Rattle.std.specs.Option.{option_map}
 use Rattle.epoch_drive.proofs.ShareLemmas.{Nothing, alone, line_at, moved_nothing, noted_nothing}
 
 -- the schedule that was made is that of the lines
-lines_driven : (asks : List Ask) (made : List Meaning) (turns : List (List ℕ))
+lines_driven : (asks : List LineAsk) (made : List Meaning) (turns : List (List ℕ))
     → map asked asks ≡ map asks_of made
     → driven_by (map asked asks) turns ≡ driven made turns
 lines_driven asks made turns is =
@@ -55,12 +55,12 @@ bounds_are : (slices : ℕ) (subscribers : List SubscriberState) (bounds : List 
 bounds_are slices subscribers bounds is slot =
     ap (λ bs. bound_in slices bs slot) is ∙ bounds_listed subscribers slot (slot % slices)
 
-pub length-asks : (asks : List Ask) (made : List Meaning)
+pub length-asks : (asks : List LineAsk) (made : List Meaning)
     → map asked asks ≡ map asks_of made → length asks ≡ length made
 length-asks asks made is =
     sym (length-map asks asked) ∙ ap length is ∙ length-map made asks_of
 
-module _ (rooms : Rooms) (slices : ℕ) (subscribers : List SubscriberState) (bounds : List ℕ) (asks : List Ask)
+module _ (rooms : Rooms) (slices : ℕ) (subscribers : List SubscriberState) (bounds : List ℕ) (asks : List LineAsk)
     (made : List Meaning) (turns turns_now : List (List ℕ))
     (bounds_is : bounds ≡ map (λ (s : SubscriberState). s.destination) subscribers)
     (asks_are : map asked asks ≡ map asks_of made)
@@ -163,11 +163,11 @@ pub record Planned (rooms : Rooms) (slices : ℕ) (subscribers : List Subscriber
   pub long : length plan.outcomes ≡ length made
   pub counted : length made ≡ length lines
 
-abbrev asks_driven : (slices : ℕ) → Turns → List Ask → List Driven
+abbrev asks_driven : (slices : ℕ) → Turns → List LineAsk → List Driven
 asks_driven slices turns asks = driven_by (map asked asks) (turns_told turns slices (length asks))
 
 pub planned : (rooms : Rooms) (slices : ℕ) (book book_now : List (List ℕ)) (subscribers between : List SubscriberState)
-    (lines : List Line) (bounds : List ℕ) (asks : List Ask) (made : List Meaning) (turns : Turns) (plan : Plan)
+    (lines : List Line) (bounds : List ℕ) (asks : List LineAsk) (made : List Meaning) (turns : Turns) (plan : Plan)
     → TurnedAll slices book subscribers lines made book_now between
     → bounds ≡ map (λ (s : SubscriberState). s.destination) subscribers
     → map asked asks ≡ map asks_of made
@@ -197,7 +197,7 @@ planned rooms slices book book_now subscribers between lines bounds asks made tu
 -- by the lines that were taken
 pub planned_so : (rooms : Rooms) (slices : ℕ) (book book_now : List (List ℕ))
     (subscribers between : List SubscriberState) (taken : List Line) (lines : EpochLines) (bounds : List ℕ)
-    (asks : List Ask) (turns : Turns) (plan : Plan)
+    (asks : List LineAsk) (turns : Turns) (plan : Plan)
     → (are : AreTaken slices book subscribers taken lines book_now between)
     → bounds ≡ lines.bounds.items → asks ≡ lines.asks.items
     → plan.outcomes ≡ outcomes rooms (bound_in slices bounds) start (asks_driven slices turns asks)

@@ -17,18 +17,18 @@ use Rattle.lawful_run.specs.Merging.{merged}
 use Rattle.lawful_run.specs.Accepted as accepted
 use Rattle.lawful_run.specs.LinesTold.{LineTold}
 use Rattle.lawful_run.proofs.EventByEvent.{ordered_length}
-use Rattle.slice_schedule.specs.Front.{Outcome}
-use Rattle.schedule_run.specs.Plan.{Plan, mets_of}
+use Rattle.epoch_schedule.specs.Front.{Outcome}
+use Rattle.epoch_schedule.specs.Plan.{Plan, mets_of}
 use Rattle.subscriber.specs.Standing.{SubscriberState}
 use Rattle.at_rest.specs.Rest.{AreAtRest, HasEvents}
-use Rattle.slot_replay.specs.Replaying.{AreLate, latest_of, moment_of}
-use Rattle.slot_replay.specs.declared.placed.Placed.{Placed}
+use Rattle.slot_execution.specs.Replaying.{AreLate, latest_of, moment_of}
+use Rattle.slot_execution.specs.declared.placed.Placed.{Placed}
 use Rattle.at_rest.specs.Coming.{AreLater, latest_behind}
 use Rattle.epoch_drive.specs.Turned.{HaveMoments}
 use Rattle.epoch_drive.specs.Opened.{opened}
 use Rattle.epoch_drive.specs.Replays.{AllCanDo, HasDone, HaveDone, commands_at, commands_shared, events_shared, packets_at, packets_shared}
 use Rattle.epoch_drive.specs.Shares.{AreShares, IsShare, base_at}
-use Rattle.epoch_drive.specs.declared.replays.Answers.{Answers}
+use Rattle.epoch_drive.specs.declared.replays.SlotReplays.{SlotReplays}
 use Rattle.epoch_drive.specs.declared.replays.Replays.{Replays}
 use Rattle.epoch_drive.specs.declared.sharing.Share.{Share}
 use Rattle.epoch_drive.proofs.Driven.{some_at}
@@ -111,7 +111,7 @@ module _ (slices count latest : ℕ) (old : List SubscriberState) (shares : List
         omega (arith, all, commands, packets, short)
 
     pub did_at : (slot : ℕ) (none : SubscriberState) → slot < length old
-        → (a : Answers) × HasDone (get_or old slot none) (get_or new slot none) shares a slot
+        → (a : SlotReplays) × HasDone (get_or old slot none) (get_or new slot none) shares a slot
     did_at slot none low =
         let a = some_at replays.answers.items slot (omega (arith, low, done.answered)) in
         (get_or replays.answers.items slot a.0, done.each slot none a.0 low)

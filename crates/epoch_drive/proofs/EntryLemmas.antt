@@ -9,17 +9,17 @@ use Rattle.demux.specs.Trace.{Meaning}
 use Rattle.report_lines.specs.Lent.{IsShort}
 use Rattle.report_lines.specs.declared.entry.LineEntry.{LineEntry}
 use Rattle.report_lines.specs.declared.entry.LineEntry.TheVariants as line
-use Rattle.epoch_join.specs.Filling.{Mets, Replies, fill, filled, met_slot, others_of, replied_slot}
-use Rattle.slice_schedule.specs.Front.{Outcome}
-use Rattle.slot_replay.specs.Replaying.{AreShort}
-use Rattle.slot_replay.specs.declared.replayed.NumberedVerdict.{NumberedVerdict}
-use Rattle.slot_replay.specs.declared.replayed.NumberedReply as told
-use Rattle.epoch_drive.specs.declared.epoch.Entry.{Entry}
-use Rattle.epoch_drive.specs.declared.epoch.Entry.TheVariants as entries
-use Rattle.epoch_drive.specs.declared.replays.Answers.{Answers}
+use Rattle.lawful_run.specs.Filling.{Mets, Replies, fill, filled, met_slot, others_of, replied_slot}
+use Rattle.epoch_schedule.specs.Front.{Outcome}
+use Rattle.slot_execution.specs.Replaying.{AreShort}
+use Rattle.slot_execution.specs.declared.replayed.NumberedVerdict.{NumberedVerdict}
+use Rattle.slot_execution.specs.declared.replayed.NumberedReply as told
+use Rattle.epoch_drive.specs.declared.epoch.DrivenEntry.{DrivenEntry}
+use Rattle.epoch_drive.specs.declared.epoch.DrivenEntry.TheVariants as entries
+use Rattle.epoch_drive.specs.declared.replays.SlotReplays.{SlotReplays}
 use Rattle.epoch_drive.specs.Joins.{AllShort, FillsNext, TakesPacket, TakesReply, met_so, mets_at, mets_of, replied_so, replies_at, replies_of, told_of_command, told_of_packet}
-use Rattle.epoch_join.specs.Opened.{open_command, open_packet}
-use Rattle.driven_run.specs.Opened.{open_entries, open_entry}
+use Rattle.lawful_run.specs.Opened.{open_command, open_packet}
+use Rattle.epoch_drive.specs.DrivenOpened.{open_entries, open_entry}
 use Rattle.epoch_drive.specs.Telling.{IsShortEntry, line_told}
 
 -- lists by slot, where the value of one slot is another
@@ -106,11 +106,11 @@ next_judged xs ys (Some j) is rest n slot parked replies mets own =
     ap (λ ms. fill (open_packet n slot true parked) replies (λ k. ms)) (sym (ap (map met_so) is) ∙ own)
 
 -- the entries so far, and those that are left to fill
-abbrev pub Joins : (entries : List Entry) (left : List LineEntry) (replies : Replies) (mets : Mets)
+abbrev pub Joins : (entries : List DrivenEntry) (left : List LineEntry) (replies : Replies) (mets : Mets)
     (whole : List LineEntry) → Type 0
 Joins entries left replies mets whole = map line_told entries ++ filled left replies mets ≡ whole
 
-pub joins_more : (entries : List Entry) (entry : Entry) (open_ : LineEntry) (left rest : List LineEntry)
+pub joins_more : (entries : List DrivenEntry) (entry : DrivenEntry) (open_ : LineEntry) (left rest : List LineEntry)
     (replies replies_now : Replies) (mets mets_now : Mets) (whole : List LineEntry)
     → Joins entries left replies mets whole → left ≡ open_ ∷ rest → line_told entry ≡ fill open_ replies mets
     → ((slot : ℕ) → replies_now slot ≡ others_of (replied_slot open_) replies slot)
@@ -123,8 +123,8 @@ joins_more entries entry open_ left rest replies replies_now mets mets_now whole
     ∙ ap (λ l. map line_told entries ++ filled l replies mets) (sym is)
     ∙ joins
 
-pub joins_next : (entries : List Entry) (entry : Entry) (first i : ℕ) (it : Meaning) (rest left : List Meaning)
-    (outs : List Outcome) (o : Outcome) (old new : List Answers) (whole : List LineEntry)
+pub joins_next : (entries : List DrivenEntry) (entry : DrivenEntry) (first i : ℕ) (it : Meaning) (rest left : List Meaning)
+    (outs : List Outcome) (o : Outcome) (old new : List SlotReplays) (whole : List LineEntry)
     → i < length outs → o ≡ get_or outs i o → left ≡ it ∷ rest
     → Joins entries (open_entries (first + i) left (drop i outs)) (replies_at old) (mets_at old) whole
     → FillsNext old new (open_entry (first + i) it o) entry
@@ -143,7 +143,7 @@ joins_next entries entry first i it rest left outs o old new whole low o_is left
     ∙ ap (λ k. open_entry (first + i) it o ∷ open_entries k rest (drop (i + 1) outs)) at)
     fills.filled_so fills.replies fills.mets
 
-pub joins_over : (entries : List Entry) (n : ℕ) (left : List Meaning) (outs : List Outcome) (replies : Replies)
+pub joins_over : (entries : List DrivenEntry) (n : ℕ) (left : List Meaning) (outs : List Outcome) (replies : Replies)
     (mets : Mets) (whole : List LineEntry) → left ≡ []
     → Joins entries (open_entries n left outs) replies mets whole → map line_told entries ≡ whole
 joins_over entries n left outs replies mets whole none joins =
@@ -158,7 +158,7 @@ next_short xs ys (Some j) is short =
     All-head (λ (judged : NumberedVerdict). IsShort judged.verdict) j ys (subst AreShort is short)
 
 -- the entry of a command, or a packet, that was taken
-pub fills_command : (old new : List Answers) (n slot : ℕ) (taken : Bool) (next : Option told.NumberedReply) (entry : Entry)
+pub fills_command : (old new : List SlotReplays) (n slot : ℕ) (taken : Bool) (next : Option told.NumberedReply) (entry : DrivenEntry)
     → taken ≡ true → slot < length old → TakesReply old new slot next
     → line_told entry ≡ told_of_command n slot next → IsShortEntry entry
     → FillsNext old new (open_command n slot taken) entry
@@ -181,13 +181,13 @@ fills_command old new n slot taken next entry is_taken low takes told_so short =
       short = λ all. short;
       still = λ all.
           subst AllShort (sym takes.is)
-          (All-set (λ (a : Answers). AreShort a.packets.items) old slot takes.after
+          (All-set (λ (a : SlotReplays). AreShort a.packets.items) old slot takes.after
           (subst AreShort (sym takes.same)
-          (subst (λ (a : Answers). AreShort a.packets.items) (sym takes.found) (all slot takes.before low))) all);
+          (subst (λ (a : SlotReplays). AreShort a.packets.items) (sym takes.found) (all slot takes.before low))) all);
     } in
     subst (λ t. FillsNext old new (open_command n slot t) entry) (sym is_taken) fills
 
-pub fills_packet : (old new : List Answers) (n slot : ℕ) (taken parked : Bool) (next : Option NumberedVerdict) (entry : Entry)
+pub fills_packet : (old new : List SlotReplays) (n slot : ℕ) (taken parked : Bool) (next : Option NumberedVerdict) (entry : DrivenEntry)
     → taken ≡ true → slot < length old → TakesPacket old new slot next
     → line_told entry ≡ told_of_packet n slot parked next
     → (IfSome next (λ (j : NumberedVerdict). IsShort j.verdict) → IsShortEntry entry)
@@ -198,7 +198,7 @@ fills_packet old new n slot taken parked next entry is_taken low takes told_so s
     let first : mets_of takes.after ≡ drop 1 (mets_of takes.before) =
     ap (map met_so) takes.rest ∙ sym (drop-map met_so 1 takes.before.packets.items) in
     let before_short : AllShort old → AreShort takes.before.packets.items =
-    λ all. subst (λ (a : Answers). AreShort a.packets.items) (sym takes.found) (all slot takes.before low) in
+    λ all. subst (λ (a : SlotReplays). AreShort a.packets.items) (sym takes.found) (all slot takes.before low) in
     let fills : FillsNext old new (open_packet n slot true parked) entry = record {
       filled_so = told_so
           ∙ next_judged takes.before.packets.items takes.after.packets.items next takes.first takes.rest n slot parked
@@ -214,14 +214,14 @@ fills_packet old new n slot taken parked next entry is_taken low takes told_so s
           short (next_short takes.before.packets.items takes.after.packets.items next takes.first (before_short all));
       still = λ all.
           subst AllShort (sym takes.is)
-          (All-set (λ (a : Answers). AreShort a.packets.items) old slot takes.after
+          (All-set (λ (a : SlotReplays). AreShort a.packets.items) old slot takes.after
           (subst AreShort (sym takes.rest)
           (All-drop (λ (judged : NumberedVerdict). IsShort judged.verdict) 1 takes.before.packets.items (before_short all))) all);
     } in
     subst (λ t. FillsNext old new (open_packet n slot t parked) entry) (sym is_taken) fills
 
 -- and of one that wasn't, which takes nothing
-pub fills_refused_command : (answers : List Answers) (n slot : ℕ) (taken : Bool) → taken ≡ false
+pub fills_refused_command : (answers : List SlotReplays) (n slot : ℕ) (taken : Bool) → taken ≡ false
     → FillsNext answers answers (open_command n slot taken) (entries.Refusal n slot false)
 fills_refused_command answers n slot taken is =
     let fills : FillsNext answers answers (open_command n slot false) (entries.Refusal n slot false) = record {
@@ -234,7 +234,7 @@ fills_refused_command answers n slot taken is =
     } in
     subst (λ t. FillsNext answers answers (open_command n slot t) (entries.Refusal n slot false)) (sym is) fills
 
-pub fills_refused_packet : (answers : List Answers) (n slot : ℕ) (taken parked : Bool) → taken ≡ false
+pub fills_refused_packet : (answers : List SlotReplays) (n slot : ℕ) (taken parked : Bool) → taken ≡ false
     → FillsNext answers answers (open_packet n slot taken parked) (entries.Refusal n slot true)
 fills_refused_packet answers n slot taken parked is =
     let fills : FillsNext answers answers (open_packet n slot false parked) (entries.Refusal n slot true) = record {
@@ -247,7 +247,7 @@ fills_refused_packet answers n slot taken parked is =
     } in
     subst (λ t. FillsNext answers answers (open_packet n slot t parked) (entries.Refusal n slot true)) (sym is) fills
 
-pub fills_note : (answers : List Answers) (n : ℕ) (text : Bor (List ℕ))
+pub fills_note : (answers : List SlotReplays) (n : ℕ) (text : Bor (List ℕ))
     → FillsNext answers answers (line.N (record { line = n; note = text.now })) (entries.Note n text)
 fills_note answers n text = record {
   filled_so = refl;

@@ -7,19 +7,19 @@ use Rattle.lawful_run.specs.Merging.{Histories, behind}
 use Rattle.lawful_run.specs.Report.{EpochReport}
 use Rattle.lawful_run.specs.Run.{told_in}
 use Rattle.lawful_run.specs.Trace.{meant_from}
-use Rattle.schedule_run.specs.Plan as plans
-use Rattle.driven_run.specs.Driven.{IsDriven}
+use Rattle.epoch_schedule.specs.Plan as plans
+use Rattle.epoch_drive.specs.Driven.{IsDriven}
 use Rattle.subscriber.specs.Standing.{SubscriberState}
 use Rattle.at_rest.specs.Rest.{AreAtRest, IsBehind, RepresentsAll, Rest, bound_at}
-use Rattle.slot_replay.specs.Replaying.{effects_told}
+use Rattle.slot_execution.specs.Replaying.{effects_told}
 use Rattle.at_rest.specs.Coming.{AreLater, latest_behind}
 use Rattle.epoch_drive.specs.Lines.{rooms_of}
 use Rattle.at_rest.specs.Meant.{AreStanding}
 use Rattle.epoch_drive.specs.Steps.{DoesLines}
-use Rattle.slot_replay.specs.Replaying.{rows_told}
+use Rattle.slot_execution.specs.Replaying.{rows_told}
 use Rattle.epoch_drive.specs.Telling.{line_told, told_by}
-use Rattle.epoch_drive.specs.declared.epoch.Entry.{Entry}
-use Rattle.epoch_drive.specs.declared.epoch.Epoch.{Epoch}
+use Rattle.epoch_drive.specs.declared.epoch.DrivenEntry.{DrivenEntry}
+use Rattle.epoch_drive.specs.declared.epoch.DrivenEpoch.{DrivenEpoch}
 use Rattle.epoch_drive.specs.declared.replays.Replays.{Replays}
 use Rattle.epoch_drive.specs.declared.sharing.Share.{Share}
 use Rattle.epoch_drive.proofs.Driven.{Drove, events_none, events_told, is_driven}
@@ -28,7 +28,7 @@ use Rattle.epoch_drive.proofs.Ends as ends
 use Rattle.epoch_drive.proofs.Finals as finals
 
 module _ (rest : Rest) (lines : List Line) (turns : List (List ℕ)) (book_now : List (List ℕ))
-    (new : List SubscriberState) (epoch : Epoch)
+    (new : List SubscriberState) (epoch : DrivenEpoch)
     (steps : DoesLines (rooms_of rest) rest.slices (rest.lines + 1) turns rest.book rest.subscribers lines book_now new
     epoch)
     (at_rest : AreAtRest rest.slices rest.lines rest.latest rest.subscribers)
@@ -48,7 +48,7 @@ module _ (rest : Rest) (lines : List Line) (turns : List (List ℕ)) (book_now :
   abbrev replays : Replays
   replays = steps.replays
 
-  abbrev told : List Entry
+  abbrev told : List DrivenEntry
   told = epoch.lines.items
 
   drove : Drove (rooms_of rest) (bound_at rest) turns (rest.lines + 1) made mid new plan shares replays told

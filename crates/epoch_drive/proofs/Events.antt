@@ -10,18 +10,18 @@ use Rattle.report_lines.specs.declared.entry.LineEntry.{LineEntry}
 use Rattle.lawful_run.specs.Accepted as accepted
 use Rattle.lawful_run.specs.LinesTold.{LineTold, lines_told}
 use Rattle.lawful_run.specs.Telling.{counted}
-use Rattle.epoch_join.specs.Joined.{with_counts}
-use Rattle.slice_schedule.specs.Front.{Outcome}
-use Rattle.slice_schedule.specs.Slots.{Met}
-use Rattle.driven_run.proofs.There.{met_list, reply_list}
-use Rattle.slot_replay.specs.Replaying.{counts_in, counts_of, numbers_in, packet_numbers_in, placed_lent, places_in, replies_in, verdicts_in}
-use Rattle.slot_replay.specs.declared.placed.Placed.{Placed}
-use Rattle.slot_replay.specs.declared.replayed.NumberedVerdict.{NumberedVerdict}
-use Rattle.slot_replay.specs.declared.replayed.NumberedReply as told
+use Rattle.lawful_run.specs.Joined.{with_counts}
+use Rattle.epoch_schedule.specs.Front.{Outcome}
+use Rattle.epoch_schedule.specs.Slots.{Met}
+use Rattle.epoch_drive.proofs.There.{met_list, reply_list}
+use Rattle.slot_execution.specs.Replaying.{counts_in, counts_of, numbers_in, packet_numbers_in, placed_lent, places_in, replies_in, verdicts_in}
+use Rattle.slot_execution.specs.declared.placed.Placed.{Placed}
+use Rattle.slot_execution.specs.declared.replayed.NumberedVerdict.{NumberedVerdict}
+use Rattle.slot_execution.specs.declared.replayed.NumberedReply as told
 use Rattle.packet_steps.specs.Lent.{verdict_of}
 use Rattle.epoch_drive.specs.Joins.{met_so, replied_so}
-use Rattle.epoch_join.specs.Opened.{open_command, open_packet}
-use Rattle.driven_run.specs.Opened.{open_entries, open_entry}
+use Rattle.lawful_run.specs.Opened.{open_command, open_packet}
+use Rattle.epoch_drive.specs.DrivenOpened.{open_entries, open_entry}
 use Rattle.epoch_drive.specs.Opened.{opened}
 use Rattle.epoch_drive.specs.Shares.{packets_alone, packets_lent}
 

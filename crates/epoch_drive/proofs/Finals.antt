@@ -3,17 +3,17 @@ use Rattle.std.proofs.Common.{◌≡◌, ℕ, ◌+◌, ◌<◌, ◌≤◌, List,
 use Rattle.std.proofs.lemmas.Bool.{cases_lt}
 use Rattle.std.proofs.lemmas.Option.{slice_get-get_or, slice_get_past}
 use Rattle.trace_lines.specs.Line.{Line}
-use Rattle.demux.specs.Destinations.{home_slice}
+use Rattle.demux.specs.Destinations.{start_slice}
 use Rattle.demux.specs.Trace.{destination_after}
 use Rattle.lawful_run.specs.LinesTold.{LineTold}
 use Rattle.lawful_run.specs.Merging.{Histories, behind, events_in}
 use Rattle.lawful_run.specs.Trace.{meant_from}
-use Rattle.driven_run.specs.Runs.{bounds_behind}
+use Rattle.epoch_drive.specs.Runs.{bounds_behind}
 use Rattle.subscriber.specs.Standing.{SubscriberState, Represents}
 use Rattle.at_rest.specs.Rest.{IsBehind, RepresentsAll, Rest, bound_at, destination_or}
 use Rattle.at_rest.specs.Meant.{AreStanding, Stand, bound_of}
 use Rattle.epoch_drive.specs.Replays.{HasDone, events_shared}
-use Rattle.epoch_drive.specs.declared.replays.Answers.{Answers}
+use Rattle.epoch_drive.specs.declared.replays.SlotReplays.{SlotReplays}
 use Rattle.epoch_drive.specs.declared.sharing.Share.{Share}
 use Rattle.epoch_drive.proofs.Bounds.{bounds_on}
 use Rattle.epoch_drive.proofs.Driven.{some_at}
@@ -28,7 +28,7 @@ stand_start rest prior is = record { book_is = is.book; bounds = is.bounds }
 -- what each subscriber did, with the answers of its slot
 abbrev pub EachDid : List SubscriberState → List SubscriberState → List Share → Type 0
 EachDid old new shares = (slot : ℕ) (none : SubscriberState) → slot < length old
-    → (a : Answers) × HasDone (get_or old slot none) (get_or new slot none) shares a slot
+    → (a : SlotReplays) × HasDone (get_or old slot none) (get_or new slot none) shares a slot
 
 pub represents_behind : (old new : List SubscriberState) (before : Histories) (lines : List LineTold)
     (shares : List Share) (count more : ℕ) (rest : Rest)
@@ -70,12 +70,12 @@ bounds_kept : (slices : ℕ) (old new : List SubscriberState) (shares : List Sha
 bounds_kept slices old new shares did many slot = elim (cases_lt slot (length old)) [
   | inl low ↦
       let s = (some_at old slot low).0 in
-      ap (destination_or (home_slice slices slot)) (slice_get-get_or new slot s (omega (arith, low, many)))
+      ap (destination_or (start_slice slices slot)) (slice_get-get_or new slot s (omega (arith, low, many)))
       ∙ (did slot s low).1.destination
-      ∙ ap (destination_or (home_slice slices slot)) (sym (slice_get-get_or old slot s low))
+      ∙ ap (destination_or (start_slice slices slot)) (sym (slice_get-get_or old slot s low))
   | inr past ↦
-      ap (destination_or (home_slice slices slot)) (slice_get_past new slot (omega (arith, past, many)))
-      ∙ ap (destination_or (home_slice slices slot)) (sym (slice_get_past old slot past))
+      ap (destination_or (start_slice slices slot)) (slice_get_past new slot (omega (arith, past, many)))
+      ∙ ap (destination_or (start_slice slices slot)) (sym (slice_get_past old slot past))
 ]
 
 pub behind_so : (slices count more : ℕ) (book_now : List (List ℕ)) (old new : List SubscriberState)

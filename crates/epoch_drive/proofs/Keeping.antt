@@ -9,9 +9,9 @@ use Rattle.demux.specs.Meant.{meaning_of}
 use Rattle.demux.specs.Trace.{Meaning, packet}
 use Rattle.demux.specs.declared.meant.Meant.{Meant}
 use Rattle.demux.specs.declared.packet.LentPacket.{LentPacket}
-use Rattle.schedule_run.specs.Lines.{asked}
-use Rattle.schedule_run.specs.declared.ask.Ask.{Ask}
-use Rattle.driven_run.specs.Driven.{asks_of}
+use Rattle.epoch_schedule.specs.Lines.{asked}
+use Rattle.epoch_schedule.specs.declared.ask.LineAsk.{LineAsk}
+use Rattle.epoch_drive.specs.Driven.{asks_of}
 use Rattle.subscriber.specs.Standing.{SubscriberState}
 use Rattle.at_rest.specs.Rest.{Rest}
 use Rattle.epoch_drive.specs.Kept.{Adds, AreBounds, AreKept, AreNone, IsPlaced, Keeps, KeepsLine, IsPlacedPacket, Places, meaning_in, meanings, packet_in, packet_octets}
@@ -19,10 +19,10 @@ use Rattle.at_rest.specs.Coming.{latest_behind}
 use Rattle.at_rest.specs.Meant.{IsWithin, Turned}
 use Rattle.epoch_drive.specs.Turned.{TurnedAll}
 use Rattle.epoch_drive.specs.Taken.{AreTaken, HasTaken, IsResting}
-use Rattle.epoch_drive.specs.declared.gateway.Gateway.{Gateway}
+use Rattle.epoch_drive.specs.declared.gateway.DrivenGateway.{DrivenGateway}
 use Rattle.epoch_drive.specs.declared.kept.EpochLines.{EpochLines}
-use Rattle.epoch_drive.specs.declared.kept.Kept.{Kept}
-use Rattle.epoch_drive.specs.declared.kept.Kept.TheVariants as kept
+use Rattle.epoch_drive.specs.declared.kept.KeptLine.{KeptLine}
+use Rattle.epoch_drive.specs.declared.kept.KeptLine.TheVariants as kept
 use Rattle.epoch_drive.specs.declared.kept.KeptPacket.{KeptPacket}
 use Rattle.epoch_drive.proofs.Turning.{turned_more, turned_none}
 
@@ -45,20 +45,20 @@ stands_still octets more p is = record {
   whole = subst IsPacket (sym (part_stays octets more p.from p.to is.ordered is.within)) is.whole;
 }
 
-placed_still : (octets more : List ℕ) (it : Kept) → IsPlaced octets it → IsPlaced (octets ++ more) it
+placed_still : (octets more : List ℕ) (it : KeptLine) → IsPlaced octets it → IsPlaced (octets ++ more) it
 placed_still octets more (kept.Command slot c) is = tt
 placed_still octets more (kept.Packet slot p) is = stands_still octets more p is
 placed_still octets more (kept.Move slot slice text) is = tt
 placed_still octets more (kept.Note text) is = tt
 
-meaning_stays : (octets more : List ℕ) (it : Kept) → IsPlaced octets it
+meaning_stays : (octets more : List ℕ) (it : KeptLine) → IsPlaced octets it
     → meaning_in (octets ++ more) it ≡ meaning_in octets it
 meaning_stays octets more (kept.Command slot c) is = refl
 meaning_stays octets more (kept.Packet slot p) is = ap (λ own. packet slot own) (packet_stays octets more p is)
 meaning_stays octets more (kept.Move slot slice text) is = refl
 meaning_stays octets more (kept.Note text) is = refl
 
-meanings_stay : (octets more : List ℕ) (all : List Kept) → All (IsPlaced octets) all
+meanings_stay : (octets more : List ℕ) (all : List KeptLine) → All (IsPlaced octets) all
     → map (meaning_in (octets ++ more)) all ≡ map (meaning_in octets) all
 meanings_stay octets more [] are = refl
 meanings_stay octets more (it ∷ all) are =
@@ -87,7 +87,7 @@ places_so old new p placed whole grown moment way from to =
     }
 
 -- a line that is added is kept
-pub keeps_line : (old middle new : EpochLines) (now : Meant) (it : Kept)
+pub keeps_line : (old middle new : EpochLines) (now : Meant) (it : KeptLine)
     → Keeps old.octets.items middle.octets.items now it → middle.lines.items ≡ old.lines.items
     → middle.asks.items ≡ old.asks.items → middle.bounds.items ≡ old.bounds.items
     → Adds middle new it → KeepsLine old new now
@@ -102,7 +102,7 @@ keeps_line old middle new now it keeps same_lines same_asks same_bounds adds = r
 }
 
 -- where no octets come with it
-pub adds_alone : (old new : EpochLines) (now : Meant) (it : Kept)
+pub adds_alone : (old new : EpochLines) (now : Meant) (it : KeptLine)
     → meaning_in old.octets.items it ≡ meaning_of now → IsPlaced old.octets.items it
     → packet_octets (meaning_of now) ≡ [] → Adds old new it → KeepsLine old new now
 adds_alone old new now it means placed alone adds =
@@ -113,7 +113,7 @@ adds_alone old new now it means placed alone adds =
     }) refl refl refl adds
 
 -- one line more is kept
-kept_more : (made : List Meaning) (old new : EpochLines) (it : Kept) (ask : Ask) (more : List ℕ)
+kept_more : (made : List Meaning) (old new : EpochLines) (it : KeptLine) (ask : LineAsk) (more : List ℕ)
     → AreKept made old → new.octets.items ≡ old.octets.items ++ more
     → packet_octets (meaning_in new.octets.items it) ≡ more → new.lines.items ≡ old.lines.items ++ it ∷ []
     → new.asks.items ≡ old.asks.items ++ ask ∷ [] → IsPlaced new.octets.items it
@@ -145,7 +145,7 @@ latest-push : (latest : ℕ) (lines : List Line) (line : Line) → latest_behind
 latest-push latest [] line = refl
 latest-push latest (first ∷ lines) line = latest-push first.moment lines line
 
-pub takes_so : (start : Rest) (taken : List Line) (old now : Gateway) (lines lines_now : EpochLines) (line : Line)
+pub takes_so : (start : Rest) (taken : List Line) (old now : DrivenGateway) (lines lines_now : EpochLines) (line : Line)
     (meant : Meant) → HasTaken start taken old lines
     → Turned old.slices old.book old.subscribers.items line meant now.book now.subscribers.items
     → KeepsLine lines lines_now meant
@@ -180,7 +180,7 @@ takes_so start taken old now lines lines_now line meant has turned keeps same la
     }
 
 -- no line yet
-pub lines_begin : (rest : Rest) (gateway : Gateway) (lines : EpochLines) → IsResting rest gateway
+pub lines_begin : (rest : Rest) (gateway : DrivenGateway) (lines : EpochLines) → IsResting rest gateway
     → AreNone rest.subscribers lines → HasTaken rest [] gateway lines
 lines_begin rest gateway lines is none = record {
   set_up = is.set_up;
@@ -197,14 +197,14 @@ lines_begin rest gateway lines is none = record {
 }
 
 -- whose slots they are hangs on no octets
-within_any : (slots : ℕ) (octets others : List ℕ) (it : Kept) → IsWithin slots (meaning_in octets it)
+within_any : (slots : ℕ) (octets others : List ℕ) (it : KeptLine) → IsWithin slots (meaning_in octets it)
     → IsWithin slots (meaning_in others it)
 within_any slots octets others (kept.Command slot c) is = is
 within_any slots octets others (kept.Packet slot p) is = is
 within_any slots octets others (kept.Move slot slice text) is = is
 within_any slots octets others (kept.Note text) is = is
 
-pub all_within_any : (slots : ℕ) (octets others : List ℕ) (all : List Kept)
+pub all_within_any : (slots : ℕ) (octets others : List ℕ) (all : List KeptLine)
     → All (IsWithin slots) (map (meaning_in octets) all) → All (IsWithin slots) (map (meaning_in others) all)
 all_within_any slots octets others [] are = All-nil (IsWithin slots)
 all_within_any slots octets others (it ∷ all) are =
@@ -215,12 +215,12 @@ all_within_any slots octets others (it ∷ all) are =
     (All-tail (IsWithin slots) (meaning_in octets it) (map (meaning_in octets) all) are))
 
 -- what is lent of the lines means the same
-pub mean_lent : (made : List Meaning) (lines : EpochLines) (all : List Kept) (octets : List ℕ) → AreKept made lines
+pub mean_lent : (made : List Meaning) (lines : EpochLines) (all : List KeptLine) (octets : List ℕ) → AreKept made lines
     → all ≡ lines.lines.items → octets ≡ lines.octets.items → map (meaning_in octets) all ≡ made
 mean_lent made lines all octets are same_lines same_octets =
     ap (map (meaning_in octets)) same_lines ∙ ap (λ xs. map (meaning_in xs) lines.lines.items) same_octets ∙ are.mean
 
-pub placed_lent : (made : List Meaning) (lines : EpochLines) (all : List Kept) (octets : List ℕ) → AreKept made lines
+pub placed_lent : (made : List Meaning) (lines : EpochLines) (all : List KeptLine) (octets : List ℕ) → AreKept made lines
     → all ≡ lines.lines.items → octets ≡ lines.octets.items → All (IsPlaced octets) all
 placed_lent made lines all octets are same_lines same_octets =
     subst (All (IsPlaced octets)) (sym same_lines)

@@ -1,3 +1,14 @@
+pub mod One
+pub mod Rising
+pub mod Accounting
+pub mod Lawful
+pub mod Budgets
+pub mod Telling
+pub mod Owing
+pub mod RunsLawful
+pub mod Forms
+pub mod There
+pub mod NotedEpoch
 mod Turning
 pub mod Keeping
 mod Bounds

@@ -7,13 +7,13 @@ use Rattle.demux.specs.Trace.{Meaning, command, packet, move, note}
 use Rattle.demux.specs.declared.packet.LentPacket.{LentPacket}
 use Rattle.report_lines.specs.declared.entry.LineEntry.{LineEntry}
 use Rattle.lawful_run.specs.Accepted as accepted
-use Rattle.slice_schedule.specs.Front.{Outcome}
-use Rattle.slot_replay.specs.Replaying.{AreLate, latest_of}
-use Rattle.slot_replay.specs.declared.placed.Placed.{Placed}
+use Rattle.epoch_schedule.specs.Front.{Outcome}
+use Rattle.slot_execution.specs.Replaying.{AreLate, latest_of}
+use Rattle.slot_execution.specs.declared.placed.Placed.{Placed}
 use Rattle.at_rest.specs.Coming.{AreLater, latest_behind}
 use Rattle.at_rest.specs.Meant.{HasItsMoment}
 use Rattle.epoch_drive.specs.Turned.{HaveMoments}
-use Rattle.driven_run.specs.Opened.{open_entry}
+use Rattle.epoch_drive.specs.DrivenOpened.{open_entry}
 use Rattle.epoch_drive.specs.Opened.{opened}
 use Rattle.epoch_drive.specs.Shares.{packets_alone, packets_lent}
 

@@ -15,13 +15,13 @@ use Rattle.lawful_run.specs.Outcomes as made_of
 use Rattle.lawful_run.specs.Run.{by_slot}
 use Rattle.lawful_run.specs.Telling.{counted}
 use Rattle.subscriber.specs.Standing.{SubscriberState, Represents}
-use Rattle.slot_replay.specs.Replaying.{AreShort, counts_in, counts_of, effects_told, events_of, latest_of, moment_of, numbers_in, packet_numbers_in}
-use Rattle.slot_replay.specs.Replaying.{placed_lent, places_in, places_of, replies_in, verdicts_in}
-use Rattle.slot_replay.specs.declared.placed.Placed.{Placed}
-use Rattle.slot_replay.specs.declared.replayed.Replayed.{Replayed}
+use Rattle.slot_execution.specs.Replaying.{AreShort, counts_in, counts_of, effects_told, events_of, latest_of, moment_of, numbers_in, packet_numbers_in}
+use Rattle.slot_execution.specs.Replaying.{placed_lent, places_in, places_of, replies_in, verdicts_in}
+use Rattle.slot_execution.specs.declared.placed.Placed.{Placed}
+use Rattle.slot_execution.specs.declared.replayed.Replayed.{Replayed}
 use Rattle.epoch_drive.specs.Replays.{AddsShare, AreShortAnswers, DoesShare, DoesWith, HasDone, HaveDone, IsTold, commands_at, commands_shared, events_shared, packets_at, packets_shared}
-use Rattle.slot_replay.specs.Replaying.{rows_told}
-use Rattle.epoch_drive.specs.declared.replays.Answers.{Answers}
+use Rattle.slot_execution.specs.Replaying.{rows_told}
+use Rattle.epoch_drive.specs.declared.replays.SlotReplays.{SlotReplays}
 use Rattle.epoch_drive.specs.declared.replays.Replays.{Replays}
 use Rattle.epoch_drive.specs.declared.sharing.Share.{Share}
 
@@ -149,7 +149,7 @@ more_done old now new shares replays after i subscriber did share have low many 
     let replayed = did_it.replayed in
     let does = did_it.does in
     let adds = did_it.adds in
-    let answer : Answers = record { replies = replayed.replies; packets = replayed.packets } in
+    let answer : SlotReplays = record { replies = replayed.replies; packets = replayed.packets } in
     let within : i < length now = omega (arith, low, have.many) in
     let done = done_share subscriber did shares share replayed i (omega (arith, low, many)) share_is does in
     let from : subscriber ≡ get_or old i subscriber = is ∙ have.later i subscriber (omega arith) in

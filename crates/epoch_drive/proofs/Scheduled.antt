@@ -12,20 +12,20 @@ use Rattle.lawful_run.specs.Bounds.{count_before}
 use Rattle.lawful_run.specs.LinesTold.{LineTold, lines_told}
 use Rattle.lawful_run.specs.Merging.{Histories}
 use Rattle.lawful_run.specs.Run.{no_events}
-use Rattle.epoch_join.specs.Filling as fill
-use Rattle.epoch_join.specs.Floors.{command_floor, command_floors, floor_for}
-use Rattle.epoch_join.specs.Joined.{MeetsFloors, counts_met}
-use Rattle.epoch_join.proofs.Fillings.{counts_told, packets_counted}
-use Rattle.slice_schedule.specs.Front.{Outcome}
-use Rattle.slice_schedule.specs.Schedule.{Driven, behind_line, outcomes}
-use Rattle.slice_schedule.specs.Slots.{Met}
-use Rattle.slice_schedule.specs.World.{Rooms, World, start}
-use Rattle.schedule_run.specs.Lines.{driven_by}
-use Rattle.driven_run.specs.Driven.{asks_of, driven, mets_driven, outcome_told}
-use Rattle.driven_run.proofs.Forms.{all_answer, all_formed, all_tell}
-use Rattle.driven_run.specs.Opened.{open_entries}
-use Rattle.driven_run.proofs.Lawful.{length-counted}
-use Rattle.driven_run.proofs.There.{counts_filled, mets_at, replies_at, slot_told}
+use Rattle.lawful_run.specs.Filling as fill
+use Rattle.lawful_run.specs.Floors.{command_floor, command_floors, floor_for}
+use Rattle.lawful_run.specs.Joined.{MeetsFloors, counts_met}
+use Rattle.lawful_run.proofs.Fillings.{counts_told, packets_counted}
+use Rattle.epoch_schedule.specs.Front.{Outcome}
+use Rattle.epoch_schedule.specs.Schedule.{Driven, behind_line, outcomes}
+use Rattle.epoch_schedule.specs.Slots.{Met}
+use Rattle.epoch_schedule.specs.World.{Rooms, World, start}
+use Rattle.epoch_schedule.specs.Lines.{driven_by}
+use Rattle.epoch_drive.specs.Driven.{asks_of, driven, mets_driven, outcome_told}
+use Rattle.epoch_drive.proofs.Forms.{all_answer, all_formed, all_tell}
+use Rattle.epoch_drive.specs.DrivenOpened.{open_entries}
+use Rattle.epoch_drive.proofs.Lawful.{length-counted}
+use Rattle.epoch_drive.proofs.There.{counts_filled, mets_at, replies_at, slot_told}
 
 -- lines with their turns
 pub driven_so : (made : List Meaning) (turns : List (List ℕ)) → driven_by (map asks_of made) turns ≡ driven made turns

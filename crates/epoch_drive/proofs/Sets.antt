@@ -3,11 +3,11 @@ use Rattle.std.proofs.Common.{◌≡◌, ℕ, ◌+◌, ◌==◌, ◌≤◌, ◌^
 use Rattle.std.proofs.lemmas.Bool.{eq-eqb, ne_eqb}
 use Rattle.std.proofs.lemmas.List.{length-map}
 use Rattle.trace_lines.specs.Line.{Line}
-use Rattle.slice_schedule.specs.World.{Rooms}
-use Rattle.schedule_run.specs.Lines.{asked}
-use Rattle.schedule_run.specs.TurnsTold.{turns_told}
-use Rattle.schedule_run.specs.declared.turns.Turns.{Turns}
-use Rattle.driven_run.specs.Driven.{asks_of}
+use Rattle.epoch_schedule.specs.World.{Rooms}
+use Rattle.epoch_schedule.specs.Lines.{asked}
+use Rattle.epoch_schedule.specs.TurnsTold.{turns_told}
+use Rattle.epoch_schedule.specs.declared.turns.Turns.{Turns}
+use Rattle.epoch_drive.specs.Driven.{asks_of}
 use Rattle.gate_model.specs.Versions.{SessionsKeepTheirSlot}
 use Rattle.subscriber.specs.Standing.{SubscriberState}
 use Rattle.at_rest.specs.Rest.{AreAtRest, Rest}
@@ -15,8 +15,8 @@ use Rattle.at_rest.specs.Coming.{latest_behind}
 use Rattle.epoch_drive.specs.Lines.{rooms_of}
 use Rattle.epoch_drive.specs.Steps.{DoesLines, MayDo}
 use Rattle.epoch_drive.specs.Taken.{AreTaken, HasTaken, IsResting, MayCome, rest_of}
-use Rattle.epoch_drive.specs.declared.epoch.Epoch.{Epoch}
-use Rattle.epoch_drive.specs.declared.gateway.Gateway.{Gateway}
+use Rattle.epoch_drive.specs.declared.epoch.DrivenEpoch.{DrivenEpoch}
+use Rattle.epoch_drive.specs.declared.gateway.DrivenGateway.{DrivenGateway}
 use Rattle.epoch_drive.specs.declared.kept.EpochLines.{EpochLines}
 use Rattle.epoch_drive.proofs.Drives.{length-asks}
 use Rattle.epoch_drive.proofs.Ends.{length-moments}
@@ -34,7 +34,7 @@ none_taken n (line ∷ taken) is =
     subst (λ b. MatchBool b (line ∷ taken ≡ []) (line ∷ taken ≡ [] → ⊥)) (sym (ne_eqb n 0 (λ none. omega (arith, is, none))))
     (λ none. omega (arith, ap length none))
 
-module _ (start : Rest) (taken : List Line) (gateway : Gateway) (lines : EpochLines)
+module _ (start : Rest) (taken : List Line) (gateway : DrivenGateway) (lines : EpochLines)
     (has : HasTaken start taken gateway lines) where
   -- the same, with the gateway's number of slices
   are_taken : AreTaken gateway.slices start.book start.subscribers taken lines gateway.book gateway.subscribers.items
@@ -66,7 +66,7 @@ module _ (start : Rest) (taken : List Line) (gateway : Gateway) (lines : EpochLi
     few = omega (arith, may.few, has.set_up.same_lines);
   }
 
-  pub steps_so : (rooms : Rooms) (turns : Turns) (new : List SubscriberState) (epoch : Epoch)
+  pub steps_so : (rooms : Rooms) (turns : Turns) (new : List SubscriberState) (epoch : DrivenEpoch)
       → rooms ≡ record { room = gateway.room; lane = gateway.lane }
       → ((first_book : List (List ℕ)) (first : List SubscriberState) (lines_first : List Line)
       → AreTaken gateway.slices first_book first lines_first lines gateway.book gateway.subscribers.items
@@ -86,7 +86,7 @@ module _ (start : Rest) (taken : List Line) (gateway : Gateway) (lines : EpochLi
       (does start.book start.subscribers taken are_taken)))
 
   -- the gateway is at rest behind the epoch
-  pub resting_so : SessionsKeepTheirSlot → MayCome start taken → (turns : List (List ℕ)) (new : Gateway) (epoch : Epoch)
+  pub resting_so : SessionsKeepTheirSlot → MayCome start taken → (turns : List (List ℕ)) (new : DrivenGateway) (epoch : DrivenEpoch)
       → DoesLines (rooms_of start) start.slices (start.lines + 1) turns start.book start.subscribers taken gateway.book
       new.subscribers.items epoch
       → new.slices ≡ gateway.slices → new.book ≡ gateway.book → new.lines ≡ gateway.lines + length taken

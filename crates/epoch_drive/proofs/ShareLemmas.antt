@@ -11,15 +11,15 @@ use Rattle.demux.specs.declared.packet.LentPacket.{LentPacket}
 use Rattle.gate_model.specs.Events.{FewEvents}
 use Rattle.lawful_run.specs.Accepted as accepted
 use Rattle.lawful_run.specs.LinesTold.{LineTold}
-use Rattle.slice_schedule.specs.Front.{Outcome}
-use Rattle.slice_schedule.specs.Slots.{Met}
-use Rattle.schedule_run.specs.Plan.{Plan, mets_of}
-use Rattle.slot_replay.specs.Replaying.{commands_lent, counts_of, places_of}
-use Rattle.slot_replay.specs.declared.placed.Placed.{Placed}
+use Rattle.epoch_schedule.specs.Front.{Outcome}
+use Rattle.epoch_schedule.specs.Slots.{Met}
+use Rattle.epoch_schedule.specs.Plan.{Plan, mets_of}
+use Rattle.slot_execution.specs.Replaying.{commands_lent, counts_of, places_of}
+use Rattle.slot_execution.specs.declared.placed.Placed.{Placed}
 use Rattle.subscriber.specs.Standing.{SubscriberState, commands_met}
 use Rattle.at_rest.specs.Meant.{IsWithin}
-use Rattle.epoch_join.specs.Opened.{open_command, open_packet}
-use Rattle.driven_run.specs.Opened.{open_entry}
+use Rattle.lawful_run.specs.Opened.{open_command, open_packet}
+use Rattle.epoch_drive.specs.DrivenOpened.{open_entry}
 use Rattle.epoch_drive.specs.Opened.{opened}
 use Rattle.epoch_drive.specs.Shares.{AreMet, AreShares, base_at, GivesCommand, GivesPacket, HasMet, IsShare, MayMeet, packets_alone, packets_lent}
 use Rattle.epoch_drive.specs.declared.sharing.Share.{Share}

@@ -3,14 +3,14 @@ use Rattle.std.specs.Prelude.{◌≡◌, ℕ, Bool, true, Option, Some, None, op
 use Rattle.std.specs.Prelude.{List, [], ◌∷◌, ◌++◌, All, length, map, drop, get_or, set}
 use Rattle.packet_steps.specs.Lent.{verdict_of}
 use Rattle.report_lines.specs.declared.entry.LineEntry.{LineEntry}
-use Rattle.epoch_join.specs.Filling.{Met, Mets, Replied, Replies, fill, met_slot, others_of, replied_slot}
-use Rattle.slot_replay.specs.declared.replayed.NumberedVerdict.{NumberedVerdict}
-use Rattle.slot_replay.specs.declared.replayed.NumberedReply as told
-use Rattle.epoch_join.specs.Opened.{open_command, open_packet}
+use Rattle.lawful_run.specs.Filling.{Met, Mets, Replied, Replies, fill, met_slot, others_of, replied_slot}
+use Rattle.slot_execution.specs.declared.replayed.NumberedVerdict.{NumberedVerdict}
+use Rattle.slot_execution.specs.declared.replayed.NumberedReply as told
+use Rattle.lawful_run.specs.Opened.{open_command, open_packet}
 use Rattle.epoch_drive.specs.Replays.{AreShortAnswers}
 use Rattle.epoch_drive.specs.Telling.{IsShortEntry, line_told}
-use Rattle.epoch_drive.specs.declared.epoch.Entry.{Entry}
-use Rattle.epoch_drive.specs.declared.replays.Answers.{Answers}
+use Rattle.epoch_drive.specs.declared.epoch.DrivenEntry.{DrivenEntry}
+use Rattle.epoch_drive.specs.declared.replays.SlotReplays.{SlotReplays}
 
 abbrev pub replied_so : told.NumberedReply → Replied
 replied_so replied = record { number = replied.number; reply = replied.reply }
@@ -24,20 +24,20 @@ met_so judged = record {
 }
 
 -- by slot, and none beyond
-abbrev pub replies_of : Answers → List Replied
+abbrev pub replies_of : SlotReplays → List Replied
 replies_of answers = map replied_so answers.replies.items
 
-abbrev pub mets_of : Answers → List Met
+abbrev pub mets_of : SlotReplays → List Met
 mets_of answers = map met_so answers.packets.items
 
-abbrev pub replies_at : List Answers → Replies
+abbrev pub replies_at : List SlotReplays → Replies
 replies_at answers slot = get_or (map replies_of answers) slot []
 
-abbrev pub mets_at : List Answers → Mets
+abbrev pub mets_at : List SlotReplays → Mets
 mets_at answers slot = get_or (map mets_of answers) slot []
 
 -- each verdict can be written
-abbrev pub AllShort : List Answers → Type 0
+abbrev pub AllShort : List SlotReplays → Type 0
 AllShort answers = All AreShortAnswers answers
 
 -- the entry of a command or packet that was taken, with what comes next of its slot
@@ -56,18 +56,18 @@ abbrev pub told_of_packet : (n slot : ℕ) → Bool → Option NumberedVerdict �
 told_of_packet n slot parked next = fill (open_packet n slot true parked) (λ own. []) (λ own. next_met next)
 
 -- the next reply of a slot is taken, and the next verdict
-pub record TakesReply (old new : List Answers) (slot : ℕ) (next : Option told.NumberedReply) : Type 0 where
-  pub before : Answers
-  pub after : Answers
+pub record TakesReply (old new : List SlotReplays) (slot : ℕ) (next : Option told.NumberedReply) : Type 0 where
+  pub before : SlotReplays
+  pub after : SlotReplays
   pub found : before ≡ get_or old slot before
   pub is : new ≡ set old slot after
   pub first : before.replies.items ≡ option_to_list next ++ after.replies.items
   pub rest : after.replies.items ≡ drop 1 before.replies.items
   pub same : after.packets.items ≡ before.packets.items
 
-pub record TakesPacket (old new : List Answers) (slot : ℕ) (next : Option NumberedVerdict) : Type 0 where
-  pub before : Answers
-  pub after : Answers
+pub record TakesPacket (old new : List SlotReplays) (slot : ℕ) (next : Option NumberedVerdict) : Type 0 where
+  pub before : SlotReplays
+  pub after : SlotReplays
   pub found : before ≡ get_or old slot before
   pub is : new ≡ set old slot after
   pub first : before.packets.items ≡ option_to_list next ++ after.packets.items
@@ -75,7 +75,7 @@ pub record TakesPacket (old new : List Answers) (slot : ℕ) (next : Option Numb
   pub same : after.replies.items ≡ before.replies.items
 
 -- an open entry is filled with what is told next of its slot, which is taken
-pub record FillsNext (old new : List Answers) (open_ : LineEntry) (entry : Entry) : Type 0 where
+pub record FillsNext (old new : List SlotReplays) (open_ : LineEntry) (entry : DrivenEntry) : Type 0 where
   pub filled_so : line_told entry ≡ fill open_ (replies_at old) (mets_at old)
   pub many : length new ≡ length old
   pub replies : (slot : ℕ) → replies_at new slot ≡ others_of (replied_slot open_) (replies_at old) slot

@@ -6,20 +6,20 @@ use Rattle.demux.specs.Meant.{meaning_of}
 use Rattle.demux.specs.Trace.{Meaning, command, packet, move, note}
 use Rattle.demux.specs.declared.meant.Meant.{Meant}
 use Rattle.demux.specs.declared.packet.LentPacket.{LentPacket}
-use Rattle.schedule_run.specs.Lines.{asked}
-use Rattle.schedule_run.specs.declared.ask.Ask.{Ask}
-use Rattle.driven_run.specs.Driven.{asks_of}
+use Rattle.epoch_schedule.specs.Lines.{asked}
+use Rattle.epoch_schedule.specs.declared.ask.LineAsk.{LineAsk}
+use Rattle.epoch_drive.specs.Driven.{asks_of}
 use Rattle.subscriber.specs.Standing.{SubscriberState}
 use Rattle.epoch_drive.specs.declared.kept.EpochLines.{EpochLines}
-use Rattle.epoch_drive.specs.declared.kept.Kept.{Kept}
-use Rattle.epoch_drive.specs.declared.kept.Kept.TheVariants as kept
+use Rattle.epoch_drive.specs.declared.kept.KeptLine.{KeptLine}
+use Rattle.epoch_drive.specs.declared.kept.KeptLine.TheVariants as kept
 use Rattle.epoch_drive.specs.declared.kept.KeptPacket.{KeptPacket}
 
 -- a packet among the octets of all, and what a line means with them
 abbrev pub packet_in : List ℕ → KeptPacket → LentPacket
 packet_in octets p = record { moment = p.moment; way = p.way; ip = slice_range octets p.from p.to }
 
-abbrev pub meaning_in : List ℕ → Kept → Meaning
+abbrev pub meaning_in : List ℕ → KeptLine → Meaning
 meaning_in octets (kept.Command slot c) = command slot c.value
 meaning_in octets (kept.Packet slot p) = packet slot (packet_in octets p)
 meaning_in octets (kept.Move slot slice text) = move slot slice text
@@ -38,7 +38,7 @@ pub record IsPlacedPacket (octets : List ℕ) (p : KeptPacket) : Type 0 where
   pub within : p.to ≤ length octets
   pub whole : IsPacket (slice_range octets p.from p.to)
 
-abbrev pub IsPlaced : List ℕ → Kept → Type 0
+abbrev pub IsPlaced : List ℕ → KeptLine → Type 0
 IsPlaced octets (kept.Command slot c) = Unit {0}
 IsPlaced octets (kept.Packet slot p) = IsPlacedPacket octets p
 IsPlaced octets (kept.Move slot slice text) = Unit {0}
@@ -51,14 +51,14 @@ pub record Places (old new : List ℕ) (p : LentPacket) (placed : KeptPacket) : 
   pub stands : IsPlacedPacket new placed
 
 -- what a line means is kept, with the octets of its packet behind those before
-pub record Keeps (old new : List ℕ) (now : Meant) (it : Kept) : Type 0 where
+pub record Keeps (old new : List ℕ) (now : Meant) (it : KeptLine) : Type 0 where
   pub grown : new ≡ old ++ packet_octets (meaning_of now)
   pub means : meaning_in new it ≡ meaning_of now
   pub placed : IsPlaced new it
 
 -- one line more is kept, with what it asks of the schedule
-pub record Adds (old new : EpochLines) (it : Kept) : Type 0 where
-  pub ask : Ask
+pub record Adds (old new : EpochLines) (it : KeptLine) : Type 0 where
+  pub ask : LineAsk
   pub asked_so : (octets : List ℕ) → asked ask ≡ asks_of (meaning_in octets it)
   pub asks : new.asks.items ≡ old.asks.items ++ ask ∷ []
   pub lines : new.lines.items ≡ old.lines.items ++ it ∷ []
@@ -67,8 +67,8 @@ pub record Adds (old new : EpochLines) (it : Kept) : Type 0 where
 
 -- .. which is what this line means
 pub record KeepsLine (old new : EpochLines) (now : Meant) : Type 0 where
-  pub it : Kept
-  pub ask : Ask
+  pub it : KeptLine
+  pub ask : LineAsk
   pub asked_so : (octets : List ℕ) → asked ask ≡ asks_of (meaning_in octets it)
   pub asks : new.asks.items ≡ old.asks.items ++ ask ∷ []
   pub lines : new.lines.items ≡ old.lines.items ++ it ∷ []

@@ -1,3 +1,7 @@
+pub mod Driven
+pub mod DrivenOpened
+pub mod Runs
+pub mod Noted
 pub mod Telling
 pub mod Lines
 pub mod Turned

@@ -1,5 +1,5 @@
 -- The rooms of a gateway at rest.
-use Rattle.slice_schedule.specs.World.{Rooms}
+use Rattle.epoch_schedule.specs.World.{Rooms}
 use Rattle.at_rest.specs.Rest.{Rest}
 
 -- the rooms of queues and lanes

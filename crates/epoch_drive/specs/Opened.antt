@@ -2,8 +2,8 @@
 use Rattle.std.specs.Prelude.{ℕ, ◌+◌, List, [], ◌∷◌}
 use Rattle.demux.specs.Trace.{Meaning}
 use Rattle.lawful_run.specs.LinesTold.{LineTold}
-use Rattle.slice_schedule.specs.Front.{Outcome}
-use Rattle.driven_run.specs.Opened.{open_entry}
+use Rattle.epoch_schedule.specs.Front.{Outcome}
+use Rattle.epoch_drive.specs.DrivenOpened.{open_entry}
 
 abbrev pub opened : ℕ → List Meaning → List Outcome → List LineTold
 opened n [] outcomes = []

@@ -11,15 +11,15 @@ use Rattle.lawful_run.specs.Run.{by_slot}
 use Rattle.lawful_run.specs.Telling.{counted}
 use Rattle.report_lines.specs.declared.entry.ChargeEntry.TheVariants.{R}
 use Rattle.subscriber.specs.Standing.{SubscriberState, Represents}
-use Rattle.slot_replay.specs.Replaying.{AreLate, AreShort, CanReplay, IsLedTo, commands_lent, counts_in}
-use Rattle.slot_replay.specs.Replaying.{counts_of, effects_told, events_of, latest_of, moment_of}
-use Rattle.slot_replay.specs.Replaying.{numbers_in, packet_numbers_in, placed_lent, places_in, places_of}
-use Rattle.slot_replay.specs.Replaying.{replies_in, verdicts_in}
-use Rattle.slot_replay.specs.declared.placed.Placed.{Placed}
-use Rattle.slot_replay.specs.declared.replayed.Replayed.{Replayed}
+use Rattle.slot_execution.specs.Replaying.{AreLate, AreShort, CanReplay, IsLedTo, commands_lent, counts_in}
+use Rattle.slot_execution.specs.Replaying.{counts_of, effects_told, events_of, latest_of, moment_of}
+use Rattle.slot_execution.specs.Replaying.{numbers_in, packet_numbers_in, placed_lent, places_in, places_of}
+use Rattle.slot_execution.specs.Replaying.{replies_in, verdicts_in}
+use Rattle.slot_execution.specs.declared.placed.Placed.{Placed}
+use Rattle.slot_execution.specs.declared.replayed.Replayed.{Replayed}
 use Rattle.at_rest.specs.Meant.{AreStanding}
-use Rattle.slot_replay.specs.Replaying.{rows_told}
-use Rattle.epoch_drive.specs.declared.replays.Answers.{Answers}
+use Rattle.slot_execution.specs.Replaying.{rows_told}
+use Rattle.epoch_drive.specs.declared.replays.SlotReplays.{SlotReplays}
 use Rattle.epoch_drive.specs.declared.replays.Replays.{Replays}
 use Rattle.epoch_drive.specs.declared.sharing.Share.{Share}
 
@@ -41,7 +41,7 @@ abbrev pub events_shared : List Share → ℕ → List Event → List Event
 events_shared shares slot before = events_of before (commands_at shares slot) (packets_at shares slot)
 
 -- what is told of a slot is what these events lead to
-pub record IsTold (answers : Answers) (slot : ℕ) (before now : List Event) : Type 0 where
+pub record IsTold (answers : SlotReplays) (slot : ℕ) (before now : List Event) : Type 0 where
   pub replies : replies_in answers.replies.items ≡ made_of.replies slot before now
   pub verdicts : verdicts_in answers.packets.items ≡ made_of.verdicts slot before now
   pub numbers : numbers_in answers.replies.items ≡ counted (length (commands_of before)) (length (commands_of now))
@@ -49,7 +49,7 @@ pub record IsTold (answers : Answers) (slot : ℕ) (before now : List Event) : T
       ≡ counted (length (packets_of before)) (length (packets_of now))
 
 -- a subscriber did its share
-pub record HasDone (old new : SubscriberState) (shares : List Share) (answers : Answers) (slot : ℕ) : Type 0 where
+pub record HasDone (old new : SubscriberState) (shares : List Share) (answers : SlotReplays) (slot : ℕ) : Type 0 where
   pub represents : (before : List Event) → Represents old slot before
       → Represents new slot (before ++ events_shared shares slot before)
   pub told : (before : List Event) → Represents old slot before
@@ -94,7 +94,7 @@ pub record AddsShare (old new : SubscriberState) (share : Share) (replays after 
   pub adds : AddsReplayed replays after slot replayed
 
 -- verdicts on packets are short
-abbrev pub AreShortAnswers : Answers → Type 0
+abbrev pub AreShortAnswers : SlotReplays → Type 0
 AreShortAnswers answers = AreShort answers.packets.items
 
 -- the subscribers of the first slots did theirs
@@ -102,7 +102,7 @@ pub record HaveDone (old new : List SubscriberState) (shares : List Share) (repl
     Type 0 where
   pub many : length new ≡ length old
   pub answered : length replays.answers.items ≡ done
-  pub each : (slot : ℕ) (none : SubscriberState) (no_answers : Answers) → slot < done
+  pub each : (slot : ℕ) (none : SubscriberState) (no_answers : SlotReplays) → slot < done
       → HasDone (get_or old slot none) (get_or new slot none) shares (get_or replays.answers.items slot no_answers) slot
   pub later : (slot : ℕ) (none : SubscriberState) → done ≤ slot → get_or new slot none ≡ get_or old slot none
   pub effects : (before : Histories) → AreStanding old before → effects_told replays.effects.items

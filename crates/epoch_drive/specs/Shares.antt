@@ -6,10 +6,10 @@ use Rattle.demux.specs.declared.packet.LentPacket.{LentPacket}
 use Rattle.gate_model.specs.Events.{FewEvents}
 use Rattle.lawful_run.specs.Accepted as accepted
 use Rattle.lawful_run.specs.LinesTold.{LineTold}
-use Rattle.slice_schedule.specs.Slots.{Met}
-use Rattle.schedule_run.specs.Plan.{Plan, mets_of}
-use Rattle.slot_replay.specs.Replaying.{commands_lent, counts_of, places_of}
-use Rattle.slot_replay.specs.declared.placed.Placed.{Placed}
+use Rattle.epoch_schedule.specs.Slots.{Met}
+use Rattle.epoch_schedule.specs.Plan.{Plan, mets_of}
+use Rattle.slot_execution.specs.Replaying.{commands_lent, counts_of, places_of}
+use Rattle.slot_execution.specs.declared.placed.Placed.{Placed}
 use Rattle.subscriber.specs.Standing.{SubscriberState, commands_met}
 use Rattle.epoch_drive.specs.declared.sharing.Share.{Share}
 

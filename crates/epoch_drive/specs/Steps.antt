@@ -2,24 +2,24 @@
 use Rattle.std.specs.Prelude.{◌≡◌, ℕ, ◌+◌, ◌≤◌, ◌^◌, List, length, map}
 use Rattle.trace_lines.specs.Line.{Line}
 use Rattle.demux.specs.Trace.{Meaning}
-use Rattle.epoch_join.specs.Filling.{filled}
-use Rattle.slice_schedule.specs.Schedule.{outcomes}
-use Rattle.slice_schedule.specs.World.{Rooms, start}
-use Rattle.schedule_run.specs.Plan.{Plan, mets_of}
-use Rattle.driven_run.specs.Driven.{driven, mets_driven}
+use Rattle.lawful_run.specs.Filling.{filled}
+use Rattle.epoch_schedule.specs.Schedule.{outcomes}
+use Rattle.epoch_schedule.specs.World.{Rooms, start}
+use Rattle.epoch_schedule.specs.Plan.{Plan, mets_of}
+use Rattle.epoch_drive.specs.Driven.{driven, mets_driven}
 use Rattle.subscriber.specs.Standing.{SubscriberState}
 use Rattle.at_rest.specs.Rest.{AreAtRest}
 use Rattle.epoch_drive.specs.Joins.{mets_at, replies_at}
 use Rattle.at_rest.specs.Coming.{AreLater}
 use Rattle.at_rest.specs.Meant.{bound_of}
 use Rattle.epoch_drive.specs.Turned.{TurnedAll}
-use Rattle.driven_run.specs.Opened.{open_entries}
+use Rattle.epoch_drive.specs.DrivenOpened.{open_entries}
 use Rattle.epoch_drive.specs.Opened.{opened}
 use Rattle.epoch_drive.specs.Replays.{HaveDone}
 use Rattle.epoch_drive.specs.Shares.{AreShares}
 use Rattle.epoch_drive.specs.Taken.{AreTaken}
 use Rattle.epoch_drive.specs.Telling.{line_told}
-use Rattle.epoch_drive.specs.declared.epoch.Epoch.{Epoch}
+use Rattle.epoch_drive.specs.declared.epoch.DrivenEpoch.{DrivenEpoch}
 use Rattle.epoch_drive.specs.declared.kept.EpochLines.{EpochLines}
 use Rattle.epoch_drive.specs.declared.replays.Replays.{Replays}
 use Rattle.epoch_drive.specs.declared.sharing.Share.{Share}
@@ -40,7 +40,7 @@ pub record MayDo (slices count : ℕ) (lines : EpochLines) (book_now : List (Lis
 -- share, and entries are filled with what is told of it.
 pub record DoesLines (rooms : Rooms) (slices first : ℕ) (turns : List (List ℕ)) (book : List (List ℕ))
     (subscribers : List SubscriberState) (lines : List Line) (book_now : List (List ℕ))
-    (subscribers_now : List SubscriberState) (epoch : Epoch) : Type 0 where
+    (subscribers_now : List SubscriberState) (epoch : DrivenEpoch) : Type 0 where
   pub made : List Meaning
   pub between : List SubscriberState
   pub plan : Plan

@@ -7,7 +7,7 @@ use Rattle.at_rest.specs.Rest.{AreAtRest, Rest}
 use Rattle.epoch_drive.specs.Kept.{AreBounds, AreKept}
 use Rattle.at_rest.specs.Coming.{AreLater, latest_behind}
 use Rattle.epoch_drive.specs.Turned.{TurnedAll}
-use Rattle.epoch_drive.specs.declared.gateway.Gateway.{Gateway}
+use Rattle.epoch_drive.specs.declared.gateway.DrivenGateway.{DrivenGateway}
 use Rattle.epoch_drive.specs.declared.kept.EpochLines.{EpochLines}
 
 -- Lines are taken: they leave this book and these subscribers, and what they mean is kept.
@@ -19,7 +19,7 @@ pub record AreTaken (slices : ℕ) (book : List (List ℕ)) (subscribers : List 
   pub turned : TurnedAll slices book subscribers taken made book_now subscribers_now
 
 -- The gateway has the setup and the count of lines of one at rest, whose subscribers are at rest.
-pub record IsSetUp (start : Rest) (gateway : Gateway) : Type 0 where
+pub record IsSetUp (start : Rest) (gateway : DrivenGateway) : Type 0 where
   pub same_slices : gateway.slices ≡ start.slices
   pub same_room : gateway.room ≡ start.room
   pub same_lane : gateway.lane ≡ start.lane
@@ -29,7 +29,7 @@ pub record IsSetUp (start : Rest) (gateway : Gateway) : Type 0 where
   pub at_rest : AreAtRest start.slices start.lines start.latest start.subscribers
 
 -- The gateway is at rest: no epoch is open.
-pub record IsResting (rest : Rest) (gateway : Gateway) : Type 0 where
+pub record IsResting (rest : Rest) (gateway : DrivenGateway) : Type 0 where
   pub set_up : IsSetUp rest gateway
   pub same_book : gateway.book ≡ rest.book
   pub same_subscribers : gateway.subscribers.items ≡ rest.subscribers
@@ -37,7 +37,7 @@ pub record IsResting (rest : Rest) (gateway : Gateway) : Type 0 where
   pub many : length rest.subscribers ≡ length rest.book
 
 -- The gateway was at rest so as the open epoch began, and took these lines.
-pub record HasTaken (start : Rest) (taken : List Line) (gateway : Gateway) (lines : EpochLines) : Type 0 where
+pub record HasTaken (start : Rest) (taken : List Line) (gateway : DrivenGateway) (lines : EpochLines) : Type 0 where
   pub set_up : IsSetUp start gateway
   pub are : AreTaken start.slices start.book start.subscribers taken lines gateway.book gateway.subscribers.items
   pub latest : gateway.latest ≡ latest_behind start.latest taken
@@ -48,7 +48,7 @@ pub record MayCome (start : Rest) (taken : List Line) : Type 0 where
   pub few : start.lines + length taken ≤ 2 ^ 39
 
 -- the gateway at rest
-abbrev pub rest_of : Gateway → Rest
+abbrev pub rest_of : DrivenGateway → Rest
 rest_of gateway = record {
   slices = gateway.slices;
   room = gateway.room;

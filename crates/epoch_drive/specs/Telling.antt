@@ -5,12 +5,12 @@ use Rattle.report_lines.specs.Lent.{IsShort}
 use Rattle.report_lines.specs.declared.entry.LineEntry.{LineEntry}
 use Rattle.report_lines.specs.declared.entry.LineEntry.TheVariants as line_entry
 use Rattle.lawful_run.specs.Report.{EpochReport}
-use Rattle.slot_replay.specs.Replaying.{effects_told, rows_told}
-use Rattle.epoch_drive.specs.declared.epoch.Entry.{Entry}
-use Rattle.epoch_drive.specs.declared.epoch.Entry.TheVariants as entry
-use Rattle.epoch_drive.specs.declared.epoch.Epoch.{Epoch}
+use Rattle.slot_execution.specs.Replaying.{effects_told, rows_told}
+use Rattle.epoch_drive.specs.declared.epoch.DrivenEntry.{DrivenEntry}
+use Rattle.epoch_drive.specs.declared.epoch.DrivenEntry.TheVariants as entry
+use Rattle.epoch_drive.specs.declared.epoch.DrivenEpoch.{DrivenEpoch}
 
-abbrev pub line_told : Entry → LineEntry
+abbrev pub line_told : DrivenEntry → LineEntry
 line_told (entry.Note n text) = line_entry.N (record { line = n; note = text.now })
 line_told (entry.Answer n slot number reply) =
     line_entry.C (record { line = n; slot = slot; number = number; reply = reply })
@@ -26,17 +26,17 @@ line_told (entry.Judgement n slot number commands verdict place parked) = line_e
 line_told (entry.Refusal n slot packet) = line_entry.F (record { line = n; slot = slot; packet = packet })
 
 -- each verdict that is told can be written: what goes down is no longer than IPv4 allows
-abbrev pub IsShortEntry : Entry → Type 0
+abbrev pub IsShortEntry : DrivenEntry → Type 0
 IsShortEntry (entry.Note n text) = Unit {0}
 IsShortEntry (entry.Answer n slot number reply) = Unit {0}
 IsShortEntry (entry.Judgement n slot number commands verdict place parked) = IsShort verdict
 IsShortEntry (entry.Refusal n slot packet) = Unit {0}
 
-abbrev pub AreShort : List Entry → Type 0
+abbrev pub AreShort : List DrivenEntry → Type 0
 AreShort entries = All IsShortEntry entries
 
 -- the entries of the lines, the effects and the charging records
-abbrev pub told_by : Epoch → EpochReport
+abbrev pub told_by : DrivenEpoch → EpochReport
 told_by epoch = record {
   lines = map line_told epoch.lines.items;
   effects = effects_told epoch.effects.items;

@@ -2,7 +2,7 @@
 ghost use Rattle.std.specs.Prelude.{◌≡◌, ℕ, ◌+◌, ◌≤◌, List, length, vec_len, IfOk, OnOk};
 ghost use Rattle.subscriber.specs.Standing.{SubscriberState};
 ghost use Rattle.trace_lines.specs.Line.{Line};
-ghost use Rattle.schedule_run.specs.TurnsTold.{AreWorkers, turns_told, turns_behind};
+ghost use Rattle.epoch_schedule.specs.TurnsTold.{AreWorkers, turns_told, turns_behind};
 ghost use Rattle.epoch_drive.specs.Steps.{DoesLines, MayDo};
 ghost use Rattle.epoch_drive.specs.Taken.{AreTaken};
 ghost use Rattle.epoch_drive.specs.Telling.{AreShort};
@@ -10,10 +10,10 @@ ghost use Rattle.epoch_drive.specs.Telling.{AreShort};
 use crate::joining::join;
 use crate::replays::{Replays, replay_all};
 use crate::sharing::shares_of;
-use crate::{Epoch, EpochLines};
+use crate::{DrivenEpoch, EpochLines};
 use address_book::AddressBook;
 use bumpalo::Bump;
-use schedule_run::{Rooms, Turns, schedule};
+use epoch_schedule::{Rooms, Turns, schedule};
 use std::alloc::AllocError;
 use subscriber::Subscriber;
 
@@ -27,7 +27,7 @@ pub fn do_lines<'a>(
     count: u64,
     lines: &'a EpochLines,
     turns: &mut Turns,
-) -> Result<Epoch<'a>, AllocError>
+) -> Result<DrivenEpoch<'a>, AllocError>
     requires slices { (1 ≤ slices) × (slices ≤ 64) }
     requires workers { AreWorkers slices turns.old }
     requires may { MayDo slices count lines.now book.now subscribers.old.items }
@@ -39,13 +39,22 @@ pub fn do_lines<'a>(
     ensures short { IfOk result (λ epoch. AreShort epoch.lines.items) }
     ensures turns { OnOk result (turns.new ≡ turns_behind turns.old (vec_len lines.now.asks)) }
 {
-    let room = Bump::new(*subscribers.allocator());
-    do_lines_in(&room, rooms, slices, book, subscribers, count, lines, turns)
+    let arena = Bump::new(*subscribers.allocator());
+    do_lines_in(
+        &arena,
+        rooms,
+        slices,
+        book,
+        subscribers,
+        count,
+        lines,
+        turns,
+    )
 }
 
 // The same, with an arena for the lists of the epoch.
 fn do_lines_in<'a, 'b>(
-    room: &'b Bump,
+    arena: &'b Bump,
     rooms: Rooms,
     slices: u8,
     book: &AddressBook,
@@ -53,7 +62,7 @@ fn do_lines_in<'a, 'b>(
     count: u64,
     lines: &'a EpochLines,
     turns: &mut Turns,
-) -> Result<Epoch<'a>, AllocError>
+) -> Result<DrivenEpoch<'a>, AllocError>
     requires slices { (1 ≤ slices) × (slices ≤ 64) }
     requires workers { AreWorkers slices turns.old }
     requires may { MayDo slices count lines.now book.now subscribers.old.items }
@@ -68,20 +77,20 @@ fn do_lines_in<'a, 'b>(
     let alloc = *subscribers.allocator();
     let bounds = lines.bounds.as_slice();
     let asks = lines.asks.as_slice();
-    let scheduled = schedule(alloc, room, rooms, slices, bounds, asks, turns)?;
+    let scheduled = schedule(alloc, arena, rooms, slices, bounds, asks, turns)?;
     let kept = lines.lines.as_slice();
     let octets = lines.octets.as_slice();
     let slots = book.len();
     let shares = shares_of(
         alloc,
-        room,
+        arena,
         slots,
         subscribers.as_slice(),
         &scheduled,
         kept,
         octets,
     )?;
-    let replays = replay_all(alloc, room, slots, subscribers, shares.as_slice())?;
+    let replays = replay_all(alloc, arena, slots, subscribers, shares.as_slice())?;
     drop(shares);
     let Replays {
         mut answers,
@@ -89,7 +98,7 @@ fn do_lines_in<'a, 'b>(
         rows,
     } = replays;
     let entries = join(alloc, count + 1, kept, scheduled.outcomes(), &mut answers)?;
-    Ok(Epoch {
+    Ok(DrivenEpoch {
         lines: entries,
         effects,
         rows,

@@ -1,11 +1,11 @@
 //! What is told of an epoch.
 use packet_steps::LentVerdict;
 use pc_base::{Place, Reply, Slot};
-use slot_replay::{Caused, Closed};
+use slot_execution::{Caused, Closed};
 
 /// What is told of a line.
 #[derive(Drop)]
-pub enum Entry<'a> {
+pub enum DrivenEntry<'a> {
     /// It is a note, or an order to move. Its text lies in the line.
     Note {
         line: u64,
@@ -40,8 +40,8 @@ pub enum Entry<'a> {
 /// What is told of an epoch: of each line, the effects of its commands by slot, and the charging
 /// records that were made in it by slot.
 #[derive(Drop)]
-pub struct Epoch<'a> {
-    pub lines: Vec<Entry<'a>>,
+pub struct DrivenEpoch<'a> {
+    pub lines: Vec<DrivenEntry<'a>>,
     pub effects: Vec<Caused>,
     pub rows: Vec<Closed>,
 }

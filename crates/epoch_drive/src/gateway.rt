@@ -1,13 +1,13 @@
 //! The gateway under a schedule: at rest, or ahead by the lines of an epoch that is open.
-ghost use Rattle.std.specs.Prelude.{◌≡◌, ℕ, ◌+◌, ◌≤◌, ◌∷◌, ◌++◌, [], List, length, if◌then◌else◌, IfOk, IfSome, OnOk};
+ghost use Rattle.std.specs.Prelude.{◌≡◌, ℕ, ◌+◌, ◌≤◌, ◌∷◌, ◌++◌, [], List, length, IfOk, OnOk};
 ghost use Rattle.trace_lines.specs.Line.{Line};
 ghost use Rattle.lawful_run.specs.Trace.{meant_from};
 ghost use Rattle.lawful_run.specs.Merging.{Histories, behind};
 ghost use Rattle.lawful_run.specs.Run.{told_in};
 ghost use Rattle.at_rest.specs.Rest.{IsBehind, RepresentsAll, Rest, bound_at};
-ghost use Rattle.schedule_run.specs.TurnsTold.{AreWorkers, turns_told, turns_behind};
-ghost use Rattle.driven_run.specs.Driven.{IsDriven};
-ghost use Rattle.driven_run.specs.Runs.{bounds_behind};
+ghost use Rattle.epoch_schedule.specs.TurnsTold.{AreWorkers, turns_told, turns_behind};
+ghost use Rattle.epoch_drive.specs.Driven.{IsDriven};
+ghost use Rattle.epoch_drive.specs.Runs.{bounds_behind};
 ghost use Rattle.at_rest.specs.Coming.{latest_behind};
 ghost use Rattle.epoch_drive.specs.Lines.{rooms_of};
 ghost use Rattle.epoch_drive.specs.Taken.{HasTaken, IsResting, MayCome, rest_of};
@@ -15,21 +15,20 @@ ghost use Rattle.epoch_drive.specs.Telling.{AreShort, told_by};
 
 use crate::driving::do_lines;
 use crate::kept::{keep, keep_packet};
-use crate::{Epoch, EpochLines};
+use crate::{DrivenEpoch, EpochLines};
 use address_book::AddressBook;
 use at_rest::{AtRest, decide_line};
-use demux::{Decision, LentPacket, NoMemory, decide};
+use demux::{LentPacket, packet_of};
+use epoch_schedule::{Rooms, Turns};
 use gate_model::sessions_keep_their_slot;
-use pc_base::Slot;
-use schedule_run::{Rooms, Turns};
 use std::alloc::AllocError;
 use subscriber::Subscriber;
-use trace_lines::{LineKind, TraceLine};
+use trace_lines::TraceLine;
 
 /// The gateway, with the book and the subscribers behind the lines that it took: what those mean stands in
 /// `EpochLines`, and is done when their epoch is driven. After running out of memory it may only be dropped.
 #[derive(Drop)]
-pub struct Gateway {
+pub struct DrivenGateway {
     /// How many slices there are, 1 to 64.
     pub slices: u8,
     /// The room of a slot's queues, 1 to 256.
@@ -46,50 +45,9 @@ pub struct Gateway {
     pub latest: u64,
 }
 
-/// A packet of a subscriber.
-#[derive(Drop)]
-struct Decided<'d, 'a> {
-    slot: Slot,
-    packet: &'d LentPacket<'a>,
-}
-
-// Whether a line comes from a tunnel or from the internet.
-fn is_tunnelled(kind: &LineKind) -> bool {
-    matches!(kind, LineKind::S1u | LineKind::Sgi)
-}
-
-// The packet that was decided on.
-#[inline(always)]
-fn packet_of<'d, 'a>(decided: &'d Result<Decision<'a>, NoMemory>) -> Option<Decided<'d, 'a>>
-    ensures { IfSome result (λ found. decided.now ≡ Ok (Decision.Packet found.slot found.packet.now)) }
-{
-    match decided {
-        Ok(decision) => packet_in(decision),
-        Err(_) => None,
-    }
-}
-
-#[inline(always)]
-fn packet_in<'d, 'a>(decision: &'d Decision<'a>) -> Option<Decided<'d, 'a>>
-    ensures { IfSome result (λ found. decision.now ≡ Decision.Packet found.slot found.packet.now) }
-{
-    match decision {
-        Decision::Packet { slot, packet } => Some(Decided {
-            slot: *slot,
-            packet,
-        }),
-        Decision::Command {
-            whose: _,
-            command: _,
-        } => None,
-        Decision::Move { slot: _, slice: _ } => None,
-        Decision::Note(_) => None,
-    }
-}
-
-impl Gateway {
+impl DrivenGateway {
     /// The gateway at rest.
-    pub fn of(rest: AtRest) -> Gateway
+    pub fn of(rest: AtRest) -> DrivenGateway
         ensures { IsResting rest result }
     {
         let AtRest {
@@ -102,7 +60,7 @@ impl Gateway {
             latest,
             fulls: _,
         } = rest;
-        Gateway {
+        DrivenGateway {
             slices,
             room,
             lane,
@@ -126,29 +84,19 @@ impl Gateway {
         ensures { (start : Rest) (taken : List Line) → HasTaken start taken self.old lines.old
             → OnOk result (HasTaken start (taken ++ line.now ∷ []) self.new lines.new) }
     {
-        if is_tunnelled(&line.kind) && self.take_packet(lines, line)? {
-            return Ok(());
-        }
-        self.take_any(lines, line)
-    }
-
-    // Takes a line that is a packet of a subscriber, and leaves any other. A packet changes neither the book nor the
-    // subscribers, and is looked at where the decision stands: a decision is dear to move.
-    #[inline(always)]
-    fn take_packet(&mut self, lines: &mut EpochLines, line: &TraceLine) -> Result<bool, AllocError>
-        requires { (start : Rest) × (taken : List Line) × HasTaken start taken self.old lines.old }
-        ensures { (start : Rest) (taken : List Line) → HasTaken start taken self.old lines.old
-            → IfOk result (λ took. HasTaken start (if took then taken ++ line.now ∷ [] else taken) self.new lines.new) }
-    {
-        let alloc = *self.subscribers.allocator();
-        let decided = decide(alloc, &self.book, self.slices, line);
-        match packet_of(&decided) {
-            Some(decided) => {
-                keep_packet(lines, decided.slot, decided.packet)?;
+        match packet_of(&self.book, line) {
+            // It changes neither the book nor the subscribers.
+            Some(found) => {
+                let packet = LentPacket {
+                    moment: line.moment,
+                    way: found.1,
+                    ip: found.2,
+                };
+                keep_packet(lines, found.0, &packet)?;
                 self.latest = line.moment.0;
-                Ok(true)
+                Ok(())
             }
-            None => Ok(false),
+            None => self.take_any(lines, line),
         }
     }
 
@@ -178,7 +126,7 @@ impl Gateway {
         &mut self,
         lines: &'a EpochLines,
         turns: &mut Turns,
-    ) -> Result<Epoch<'a>, AllocError>
+    ) -> Result<DrivenEpoch<'a>, AllocError>
         requires { (start : Rest) × (taken : List Line) × (HasTaken start taken self.old lines.now
             × MayCome start taken × AreWorkers start.slices turns.old) }
 

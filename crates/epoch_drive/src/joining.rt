@@ -1,6 +1,6 @@
 //! The entry of each line, with what is told of its slot's next command or packet.
 ghost use Rattle.std.specs.Prelude.{◌≡◌, ℕ, ◌+◌, ◌<◌, ◌^◌, [], List, All, length, map, IfOk, IfSome};
-ghost use Rattle.epoch_join.specs.Filling.{filled};
+ghost use Rattle.lawful_run.specs.Filling.{filled};
 ghost use Rattle.report_lines.specs.Lent.{IsShort};
 ghost use Rattle.epoch_drive.specs.Joins.{
   AllShort,
@@ -12,29 +12,29 @@ ghost use Rattle.epoch_drive.specs.Joins.{
   told_of_command,
   told_of_packet,
 };
-ghost use Rattle.epoch_join.specs.Opened.{open_command, open_packet};
-ghost use Rattle.driven_run.specs.Opened.{open_entries, open_entry};
+ghost use Rattle.lawful_run.specs.Opened.{open_command, open_packet};
+ghost use Rattle.epoch_drive.specs.DrivenOpened.{open_entries, open_entry};
 ghost use Rattle.epoch_drive.specs.Kept.{meaning_in};
 ghost use Rattle.at_rest.specs.Meant.{IsWithin};
 ghost use Rattle.epoch_drive.specs.Telling.{AreShort, IsShortEntry, line_told};
 
-use crate::epoch::Entry;
-use crate::kept::Kept;
-use crate::replays::Answers;
+use crate::epoch::DrivenEntry;
+use crate::kept::KeptLine;
+use crate::replays::SlotReplays;
+use epoch_schedule::LineOutcome;
 use packet_steps::LentVerdict;
 use pc_base::{Outcome as Done, Reply, Slot};
-use schedule_run::Outcome;
-use slot_replay::{NumberedReply, NumberedVerdict};
+use slot_execution::{NumberedReply, NumberedVerdict};
 use std::alloc::{AllocError, Global};
 
 /// The entries of lines, which are counted on from this number.
 pub fn join<'a>(
     alloc: Global,
     first: u64,
-    kept: &'a [Kept],
-    outcomes: &[Outcome],
-    answers: &mut Vec<Answers<'a, '_>>,
-) -> Result<Vec<Entry<'a>>, AllocError>
+    kept: &'a [KeptLine],
+    outcomes: &[LineOutcome],
+    answers: &mut Vec<SlotReplays<'a, '_>>,
+) -> Result<Vec<DrivenEntry<'a>>, AllocError>
     requires within { All (IsWithin (length answers.old.items)) (map (meaning_in []) kept.now) }
     requires outcomes { length outcomes.now ≡ length kept.now }
     requires few { first + length kept.now < 2 ^ 64 }
@@ -55,29 +55,34 @@ pub fn join<'a>(
 
 fn entry_of<'a>(
     line: u64,
-    now: &'a Kept,
-    outcome: Outcome,
-    answers: &mut Vec<Answers<'a, '_>>,
-) -> Entry<'a>
+    now: &'a KeptLine,
+    outcome: LineOutcome,
+    answers: &mut Vec<SlotReplays<'a, '_>>,
+) -> DrivenEntry<'a>
     requires { IsWithin (length answers.old.items) (meaning_in [] now.now) }
     ensures { (octets : List ℕ) → FillsNext answers.old.items answers.new.items
         (open_entry line (meaning_in octets now.now) outcome) result }
 {
     match now {
-        Kept::Note(text) => Entry::Note {
+        KeptLine::Note(text) => DrivenEntry::Note {
             line,
             text: text.as_slice(),
         },
-        Kept::Move {
+        KeptLine::Move {
             slot: _,
             slice: _,
             text,
-        } => Entry::Note {
+        } => DrivenEntry::Note {
             line,
             text: text.as_slice(),
         },
-        Kept::Command { slot, command: _ } => command_entry(line, *slot, outcome.taken, answers),
-        Kept::Packet { slot, packet: _ } => {
+        KeptLine::Command { slot, command: _ } => command_entry(
+            line,
+            *slot,
+            outcome.taken,
+            answers,
+        ),
+        KeptLine::Packet { slot, packet: _ } => {
             packet_entry(line, *slot, outcome.taken, outcome.parked, answers)
         }
     }
@@ -87,8 +92,8 @@ fn command_entry<'a>(
     line: u64,
     slot: Slot,
     taken: bool,
-    answers: &mut Vec<Answers<'a, '_>>,
-) -> Entry<'a>
+    answers: &mut Vec<SlotReplays<'a, '_>>,
+) -> DrivenEntry<'a>
     requires { slot < length answers.old.items }
     ensures { FillsNext answers.old.items answers.new.items (open_command line slot taken) result }
 {
@@ -96,7 +101,7 @@ fn command_entry<'a>(
         let next = next_reply(answers, slot);
         answer(line, slot, next)
     } else {
-        Entry::Refusal {
+        DrivenEntry::Refusal {
             line,
             slot,
             packet: false,
@@ -109,8 +114,8 @@ fn packet_entry<'a>(
     slot: Slot,
     taken: bool,
     parked: bool,
-    answers: &mut Vec<Answers<'a, '_>>,
-) -> Entry<'a>
+    answers: &mut Vec<SlotReplays<'a, '_>>,
+) -> DrivenEntry<'a>
     requires { slot < length answers.old.items }
     ensures { FillsNext answers.old.items answers.new.items (open_packet line slot taken parked) result }
 {
@@ -118,7 +123,7 @@ fn packet_entry<'a>(
         let next = next_packet(answers, slot);
         judgement(line, slot, parked, next)
     } else {
-        Entry::Refusal {
+        DrivenEntry::Refusal {
             line,
             slot,
             packet: true,
@@ -127,7 +132,7 @@ fn packet_entry<'a>(
 }
 
 // What is told next of a slot's commands, and of its packets.
-fn next_reply(answers: &mut Vec<Answers<'_, '_>>, slot: Slot) -> Option<NumberedReply>
+fn next_reply(answers: &mut Vec<SlotReplays<'_, '_>>, slot: Slot) -> Option<NumberedReply>
     requires { slot < length answers.old.items }
     ensures { TakesReply answers.old.items answers.new.items slot result }
 {
@@ -135,7 +140,10 @@ fn next_reply(answers: &mut Vec<Answers<'_, '_>>, slot: Slot) -> Option<Numbered
     own.replies.pop_front()
 }
 
-fn next_packet<'a>(answers: &mut Vec<Answers<'a, '_>>, slot: Slot) -> Option<NumberedVerdict<'a>>
+fn next_packet<'a>(
+    answers: &mut Vec<SlotReplays<'a, '_>>,
+    slot: Slot,
+) -> Option<NumberedVerdict<'a>>
     requires { slot < length answers.old.items }
     ensures { TakesPacket answers.old.items answers.new.items slot result }
 {
@@ -144,18 +152,18 @@ fn next_packet<'a>(answers: &mut Vec<Answers<'a, '_>>, slot: Slot) -> Option<Num
 }
 
 // A command's entry: it has the next reply.
-fn answer<'a>(line: u64, slot: Slot, next: Option<NumberedReply>) -> Entry<'a>
+fn answer<'a>(line: u64, slot: Slot, next: Option<NumberedReply>) -> DrivenEntry<'a>
     ensures told { line_told result ≡ told_of_command line slot next }
     ensures short { IsShortEntry result }
 {
     match next {
-        Some(replied) => Entry::Answer {
+        Some(replied) => DrivenEntry::Answer {
             line,
             slot,
             number: replied.number,
             reply: replied.reply,
         },
-        None => Entry::Answer {
+        None => DrivenEntry::Answer {
             line,
             slot,
             number: 0,
@@ -173,12 +181,12 @@ fn judgement<'a>(
     slot: Slot,
     parked: bool,
     next: Option<NumberedVerdict<'a>>,
-) -> Entry<'a>
+) -> DrivenEntry<'a>
     ensures told { line_told result ≡ told_of_packet line slot parked next.entry }
     ensures short { IfSome next.entry (λ judged. IsShort judged.verdict) → IsShortEntry result }
 {
     match next {
-        Some(judged) => Entry::Judgement {
+        Some(judged) => DrivenEntry::Judgement {
             line,
             slot,
             number: judged.number,
@@ -187,7 +195,7 @@ fn judgement<'a>(
             place: Some(judged.place),
             parked,
         },
-        None => Entry::Judgement {
+        None => DrivenEntry::Judgement {
             line,
             slot,
             number: 0,

@@ -1,19 +1,19 @@
 //! What the lines of an open epoch mean, kept until it ends.
 ghost use Rattle.std.specs.Prelude.{◌≡◌, ℕ, List, [], map, MatchBool, IfOk, OnOk};
 ghost use Rattle.trace_lines.specs.Line.{Line};
-ghost use Rattle.schedule_run.specs.Lines.{asked};
-ghost use Rattle.driven_run.specs.Driven.{asks_of};
+ghost use Rattle.epoch_schedule.specs.Lines.{asked};
+ghost use Rattle.epoch_drive.specs.Driven.{asks_of};
 ghost use Rattle.subscriber.specs.Standing.{SubscriberState};
 ghost use Rattle.at_rest.specs.Rest.{Rest};
 ghost use Rattle.epoch_drive.specs.Kept.{Adds, AreNone, IsPlacedPacket, KeepsLine, Places, meaning_in, packet_in};
 ghost use Rattle.epoch_drive.specs.Taken.{HasTaken};
-ghost use Rattle.epoch_drive.specs.declared.gateway.Gateway.{Gateway};
+ghost use Rattle.epoch_drive.specs.declared.gateway.DrivenGateway.{DrivenGateway};
 
 use control_steps::Command;
 use demux::{LentPacket, Meant};
+use epoch_schedule::LineAsk;
 use ipv4_packet::Ip4;
 use pc_base::{Moment, Octets, SliceNo, Slot, Way};
-use schedule_run::Ask;
 use std::alloc::{AllocError, Global};
 use subscriber::Subscriber;
 
@@ -28,7 +28,7 @@ pub struct KeptPacket {
 
 /// A command or packet of a slot, an order that it moves to a slice, with its note, or a note alone.
 #[derive(Drop)]
-pub enum Kept {
+pub enum KeptLine {
     Command {
         slot: Slot,
         command: Box<Command>,
@@ -45,20 +45,20 @@ pub enum Kept {
     Note(Octets),
 }
 
-impl Kept {
+impl KeptLine {
     /// What it asks of the schedule.
-    pub fn ask(&self) -> Ask
+    pub fn ask(&self) -> LineAsk
         ensures { (octets : List ℕ) → asked result ≡ asks_of (meaning_in octets self.now) }
     {
         match self {
-            Kept::Command { slot, command: _ } => Ask::Command(slot.0),
-            Kept::Packet { slot, packet: _ } => Ask::Packet(slot.0),
-            Kept::Move {
+            KeptLine::Command { slot, command: _ } => LineAsk::Command(slot.0),
+            KeptLine::Packet { slot, packet: _ } => LineAsk::Packet(slot.0),
+            KeptLine::Move {
                 slot,
                 slice,
                 text: _,
-            } => Ask::Move(slot.0, slice.0),
-            Kept::Note(_) => Ask::Nothing,
+            } => LineAsk::Move(slot.0, slice.0),
+            KeptLine::Note(_) => LineAsk::Nothing,
         }
     }
 }
@@ -68,8 +68,8 @@ impl Kept {
 #[derive(Drop)]
 pub struct EpochLines {
     pub(crate) bounds: Vec<u8>,
-    pub(crate) asks: Vec<Ask>,
-    pub(crate) lines: Vec<Kept>,
+    pub(crate) asks: Vec<LineAsk>,
+    pub(crate) lines: Vec<KeptLine>,
     pub(crate) octets: Vec<u8>,
 }
 
@@ -88,7 +88,7 @@ impl EpochLines {
 
     /// Whether no lines were taken.
     pub fn is_empty(&self) -> bool
-        ensures { (start : Rest) (taken : List Line) (gateway : Gateway) → HasTaken start taken gateway self.now
+        ensures { (start : Rest) (taken : List Line) (gateway : DrivenGateway) → HasTaken start taken gateway self.now
             → MatchBool result (taken ≡ []) (taken ≡ [] → ⊥) }
     {
         self.lines.is_empty()
@@ -125,10 +125,10 @@ pub fn keep(alloc: Global, lines: &mut EpochLines, meant: Meant<'_>) -> Result<(
         Meant::Packet { slot, packet } => keep_packet(lines, slot, &packet),
         Meant::Command { slot, command } => {
             let command = Box::new(alloc, command)?;
-            add(lines, Kept::Command { slot, command })
+            add(lines, KeptLine::Command { slot, command })
         }
-        Meant::Move { slot, slice, text } => add(lines, Kept::Move { slot, slice, text }),
-        Meant::Note(text) => add(lines, Kept::Note(text)),
+        Meant::Move { slot, slice, text } => add(lines, KeptLine::Move { slot, slice, text }),
+        Meant::Note(text) => add(lines, KeptLine::Note(text)),
     }
 }
 
@@ -142,12 +142,12 @@ pub fn keep_packet(
     ensures { OnOk result (KeepsLine lines.old lines.new (Meant.Packet slot packet.now)) }
 {
     let packet = place_packet(&mut lines.octets, packet)?;
-    add(lines, Kept::Packet { slot, packet })
+    add(lines, KeptLine::Packet { slot, packet })
 }
 
 // One line more, with what it asks of the schedule: once for each kind, so that its parts go straight to their places.
 #[inline(always)]
-fn add(lines: &mut EpochLines, kept: Kept) -> Result<(), AllocError>
+fn add(lines: &mut EpochLines, kept: KeptLine) -> Result<(), AllocError>
     ensures { OnOk result (Adds lines.old lines.new kept) }
 {
     lines.asks.push(kept.ask())?;

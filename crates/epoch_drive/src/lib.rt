@@ -1,13 +1,13 @@
-//! An epoch under a schedule, on one thread: its lines are decided as they come, and what they mean is
-//! kept. When it is driven, its schedule is made, each subscriber does its commands and packets in the
-//! order that the schedule tells, and what becomes of them is joined, line by line. The entries are those
-//! of the driven epoch, and no others. Epochs of a run, and texts of entries, are left to the caller.
+//! An epoch under a schedule, on one thread: its lines are decided as they come, and what they mean is kept. When
+//! it is driven, its schedule is made, each subscriber does its commands and packets in the order that the schedule
+//! tells, and what becomes of them is joined, line by line. The entries are those of the driven epoch, and no
+//! others, and they are lawful (`driven_laws`). Epochs of a run, and texts of entries, are left to the caller.
 //!
 //! ```
 //! use at_rest::AtRest;
-//! use epoch_drive::{Entry, EpochLines, drive_epoch};
+//! use epoch_drive::{DrivenEntry, EpochLines, drive_epoch};
 //! use pc_base::{Moment, Slot};
-//! use schedule_run::Turns;
+//! use epoch_schedule::Turns;
 //! use std::test::Fail;
 //! use trace_lines::read_line;
 //!
@@ -24,7 +24,7 @@
 //!     let (rest, epoch) = drive_epoch(rest, &lines, &mut kept, &mut turns)?;
 //!     assert_eq!(rt; (rest.lines, epoch.lines.len(), epoch.effects.len()), (1, 1, 0));
 //!     match &epoch.lines[0] {
-//!         Entry::Answer { line, slot, number, .. } => {
+//!         DrivenEntry::Answer { line, slot, number, .. } => {
 //!             assert_eq!(rt; (*line, *slot, *number), (1, Slot(0), 0));
 //!             Ok(())
 //!         }
@@ -34,6 +34,7 @@
 //! ```
 #![tactic(auto)]
 
+mod driven_laws;
 mod driving;
 mod epoch;
 mod gateway;
@@ -43,7 +44,11 @@ mod replays;
 mod sharing;
 mod whole;
 
-pub use epoch::{Entry, Epoch};
-pub use gateway::Gateway;
+pub use driven_laws::{
+    a_note_is_driven, driven_epochs_are_lawful, driven_runs_are_lawful, each_schedule_is_driven,
+    epochs_go_on, one_is_driven,
+};
+pub use epoch::{DrivenEntry, DrivenEpoch};
+pub use gateway::DrivenGateway;
 pub use kept::EpochLines;
 pub use whole::drive_epoch;

@@ -1,6 +1,6 @@
 //! What the subscribers make of their commands and packets.
 ghost use Rattle.std.specs.Prelude.{◌≡◌, ◌≤◌, ◌++◌, ◌∷◌, [], length, map, vec_len, IfOk, OnOk};
-ghost use Rattle.slot_replay.specs.Replaying.{effects_told, rows_told};
+ghost use Rattle.slot_execution.specs.Replaying.{effects_told, rows_told};
 ghost use Rattle.report_lines.specs.declared.entry.ChargeEntry.TheVariants.{R};
 ghost use Rattle.epoch_drive.specs.Replays.{AddsShare, AllCanDo, CanDo, HaveDone};
 
@@ -8,14 +8,14 @@ use crate::sharing::Share;
 use bumpalo::Bump;
 use charging_book::ChargeRow;
 use pc_base::Slot;
-use slot_replay::{Caused, Closed, NumberedReply, NumberedVerdict, Replayed, replay};
+use slot_execution::{Caused, Closed, NumberedReply, NumberedVerdict, Replayed, replay};
 use std::alloc::{AllocError, Global};
 use std::collections::VecDeque;
 use subscriber::Subscriber;
 
 /// What is told of a slot's commands and packets, to be taken from the front.
 #[derive(Drop)]
-pub struct Answers<'a, 'b> {
+pub struct SlotReplays<'a, 'b> {
     pub replies: VecDeque<NumberedReply>,
     pub packets: VecDeque<NumberedVerdict<'a>, &'b Bump>,
 }
@@ -23,7 +23,7 @@ pub struct Answers<'a, 'b> {
 /// By slot: what is told of commands and packets, and all effects and charging records.
 #[derive(Drop)]
 pub struct Replays<'a, 'b> {
-    pub answers: Vec<Answers<'a, 'b>>,
+    pub answers: Vec<SlotReplays<'a, 'b>>,
     pub effects: Vec<Caused>,
     pub rows: Vec<Closed>,
 }
@@ -31,7 +31,7 @@ pub struct Replays<'a, 'b> {
 /// Each subscriber does its share.
 pub fn replay_all<'a, 'b>(
     alloc: Global,
-    room: &'b Bump,
+    arena: &'b Bump,
     slots: u32,
     subscribers: &mut Vec<Subscriber>,
     shares: &[Share<'a, '_>],
@@ -53,7 +53,7 @@ pub fn replay_all<'a, 'b>(
         let place = i as usize;
         do_share(
             alloc,
-            room,
+            arena,
             Slot(i),
             &mut subscribers[place],
             &shares[place],
@@ -67,7 +67,7 @@ pub fn replay_all<'a, 'b>(
 #[inline(always)]
 fn do_share<'a, 'b>(
     alloc: Global,
-    room: &'b Bump,
+    arena: &'b Bump,
     slot: Slot,
     subscriber: &mut Subscriber,
     share: &Share<'a, '_>,
@@ -79,15 +79,15 @@ fn do_share<'a, 'b>(
     let commands = share.commands.as_slice();
     let packets = share.packets.as_slice();
     if commands.is_empty() && packets.is_empty() {
-        return add_replayed(replays, slot, nothing(alloc, room));
+        return add_replayed(replays, slot, nothing(alloc, arena));
     }
-    let replayed = replay(alloc, room, subscriber, commands, packets)?;
+    let replayed = replay(alloc, arena, subscriber, commands, packets)?;
     add_replayed(replays, slot, replayed)
 }
 
 // What no commands and packets lead to.
 #[inline(always)]
-fn nothing<'a, 'b>(alloc: Global, room: &'b Bump) -> Replayed<'a, 'b>
+fn nothing<'a, 'b>(alloc: Global, arena: &'b Bump) -> Replayed<'a, 'b>
     ensures replies { result.replies.items ≡ [] }
     ensures packets { result.packets.items ≡ [] }
     ensures effects { result.effects.items ≡ [] }
@@ -95,7 +95,7 @@ fn nothing<'a, 'b>(alloc: Global, room: &'b Bump) -> Replayed<'a, 'b>
 {
     Replayed {
         replies: VecDeque::new(alloc),
-        packets: VecDeque::new(room),
+        packets: VecDeque::new(arena),
         effects: Vec::new(alloc),
         rows: Vec::new(alloc),
     }
@@ -121,7 +121,7 @@ fn add_replayed<'a, 'b>(
         effects,
         rows,
     } = replayed;
-    replays.answers.push(Answers { replies, packets })?;
+    replays.answers.push(SlotReplays { replies, packets })?;
     add_effects(&mut replays.effects, effects)?;
     add_rows(&mut replays.rows, slot, rows)
 }

@@ -3,7 +3,7 @@ ghost use Rattle.std.specs.Prelude.{◌≡◌, ◌<◌, ℕ, ◌++◌, ◌∷◌
 ghost use Rattle.lawful_run.specs.LinesTold.{LineTold};
 ghost use Rattle.epoch_drive.specs.Kept.{IsPlaced, meaning_in};
 ghost use Rattle.at_rest.specs.Meant.{IsWithin};
-ghost use Rattle.driven_run.specs.Opened.{open_entry};
+ghost use Rattle.epoch_drive.specs.DrivenOpened.{open_entry};
 ghost use Rattle.epoch_drive.specs.Opened.{opened};
 ghost use Rattle.epoch_drive.specs.Shares.{
   AreMet,
@@ -15,13 +15,13 @@ ghost use Rattle.epoch_drive.specs.Shares.{
   MayMeet,
 };
 
-use crate::kept::{Kept, packet_at};
+use crate::kept::{KeptLine, packet_at};
 use bumpalo::Bump;
 use control_steps::Command;
 use demux::LentPacket;
+use epoch_schedule::{LineOutcome, Scheduled};
 use pc_base::Slot;
-use schedule_run::{Outcome, Scheduled};
-use slot_replay::Placed;
+use slot_execution::Placed;
 use std::alloc::{AllocError, Global};
 use subscriber::Subscriber;
 
@@ -35,11 +35,11 @@ pub struct Share<'a, 'b> {
 /// What was taken of the lines, whose packets have these octets, for each of so many subscribers.
 pub fn shares_of<'a, 'b>(
     alloc: Global,
-    room: &'b Bump,
+    arena: &'b Bump,
     slots: u32,
     subscribers: &[Subscriber],
     scheduled: &Scheduled<'_>,
-    kept: &'a [Kept],
+    kept: &'a [KeptLine],
     octets: &'a [u8],
 ) -> Result<Vec<Share<'a, 'b>>, AllocError>
     requires slots { slots ≡ length subscribers.now }
@@ -53,7 +53,7 @@ pub fn shares_of<'a, 'b>(
     ensures shares { (first : ℕ) → IfOk result (λ shares. AreShares shares.items subscribers.now scheduled.now
         (opened first (map (meaning_in octets.now) kept.now) scheduled.now.outcomes)) }
 {
-    let mut shares = empty_shares(alloc, room, slots, scheduled)?;
+    let mut shares = empty_shares(alloc, arena, slots, scheduled)?;
     let outcomes = scheduled.outcomes();
     for (i, now) in kept.iter().enumerate() {
         share_line(
@@ -71,7 +71,7 @@ pub fn shares_of<'a, 'b>(
 // As many packets as meet something will come, so there is room for them.
 fn empty_shares<'a, 'b>(
     alloc: Global,
-    room: &'b Bump,
+    arena: &'b Bump,
     slots: u32,
     scheduled: &Scheduled<'_>,
 ) -> Result<Vec<Share<'a, 'b>>, AllocError>
@@ -81,8 +81,8 @@ fn empty_shares<'a, 'b>(
     let mut shares: Vec<Share<'a, 'b>> = Vec::with_capacity(alloc, slots as usize)?;
     for i in 0..slots {
         let share: Share<'a, 'b> = Share {
-            commands: Vec::new(room),
-            packets: Vec::with_capacity(room, scheduled.met_count(i))?,
+            commands: Vec::new(arena),
+            packets: Vec::with_capacity(arena, scheduled.met_count(i))?,
         };
         shares.push(share)?;
     }
@@ -95,8 +95,8 @@ fn share_line<'a, 'b>(
     subscribers: &[Subscriber],
     scheduled: &Scheduled<'_>,
     octets: &'a [u8],
-    now: &'a Kept,
-    outcome: Outcome,
+    now: &'a KeptLine,
+    outcome: LineOutcome,
 ) -> Result<(), AllocError>
     requires within { IsWithin (vec_len shares.old) (meaning_in octets.now now.now) }
     requires placed { IsPlaced octets.now now.now }
@@ -116,17 +116,17 @@ fn share_line<'a, 'b>(
         return Ok(());
     }
     match now {
-        Kept::Command { slot, command } => give_command(shares, *slot, &**command),
-        Kept::Packet { slot, packet } => {
+        KeptLine::Command { slot, command } => give_command(shares, *slot, &**command),
+        KeptLine::Packet { slot, packet } => {
             let lent = packet_at(octets, packet);
             give_packet(shares, subscribers, scheduled, *slot, lent)
         }
-        Kept::Move {
+        KeptLine::Move {
             slot: _,
             slice: _,
             text: _,
         } => Ok(()),
-        Kept::Note(_) => Ok(()),
+        KeptLine::Note(_) => Ok(()),
     }
 }
 

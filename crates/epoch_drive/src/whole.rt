@@ -5,17 +5,17 @@ ghost use Rattle.lawful_run.specs.Trace.{meant_from};
 ghost use Rattle.lawful_run.specs.Merging.{Histories, behind};
 ghost use Rattle.lawful_run.specs.Run.{told_in};
 ghost use Rattle.at_rest.specs.Rest.{IsBehind, RepresentsAll, Rest, bound_at};
-ghost use Rattle.schedule_run.specs.TurnsTold.{AreWorkers, turns_behind, turns_told};
-ghost use Rattle.driven_run.specs.Driven.{IsDriven};
-ghost use Rattle.driven_run.specs.Runs.{bounds_behind};
+ghost use Rattle.epoch_schedule.specs.TurnsTold.{AreWorkers, turns_behind, turns_told};
+ghost use Rattle.epoch_drive.specs.Driven.{IsDriven};
+ghost use Rattle.epoch_drive.specs.Runs.{bounds_behind};
 ghost use Rattle.at_rest.specs.Coming.{AreLater, latest_behind};
 ghost use Rattle.epoch_drive.specs.Lines.{rooms_of};
 ghost use Rattle.epoch_drive.specs.Taken.{HasTaken, IsResting, rest_of};
 ghost use Rattle.epoch_drive.specs.Telling.{AreShort, told_by};
 
-use crate::{Epoch, EpochLines, Gateway};
+use crate::{DrivenEpoch, DrivenGateway, EpochLines};
 use at_rest::AtRest;
-use schedule_run::Turns;
+use epoch_schedule::Turns;
 use std::alloc::AllocError;
 use trace_lines::TraceLine;
 
@@ -27,7 +27,7 @@ pub fn drive_epoch<'a>(
     lines: &[TraceLine],
     kept: &'a mut EpochLines,
     turns: &mut Turns,
-) -> Result<(AtRest, Epoch<'a>), AllocError>
+) -> Result<(AtRest, DrivenEpoch<'a>), AllocError>
     requires workers { AreWorkers rest.slices turns.old }
     requires later { AreLater rest.latest lines.now }
     requires few { rest.lines + length lines.now ≤ 2 ^ 39 }
@@ -61,7 +61,7 @@ pub fn drive_epoch<'a>(
     ensures turns { OnOk result (turns.new ≡ turns_behind turns.old (length lines.now)) }
 {
     let fulls = rest.fulls;
-    let mut gateway = Gateway::of(rest);
+    let mut gateway = DrivenGateway::of(rest);
     take_all(&mut gateway, kept, lines)?;
     let epoch = gateway.drive(kept, turns)?;
     Ok((rest_again(gateway, fulls), epoch))
@@ -69,7 +69,7 @@ pub fn drive_epoch<'a>(
 
 // Takes the lines of an epoch.
 fn take_all(
-    gateway: &mut Gateway,
+    gateway: &mut DrivenGateway,
     kept: &mut EpochLines,
     lines: &[TraceLine],
 ) -> Result<(), AllocError>
@@ -84,14 +84,14 @@ fn take_all(
 }
 
 // The gateway at rest, which had so many tries of lines that were answered Full.
-fn rest_again(gateway: Gateway, fulls: u64) -> AtRest
+fn rest_again(gateway: DrivenGateway, fulls: u64) -> AtRest
     requires resting { IsResting (rest_of gateway) gateway }
     requires room { (1 ≤ gateway.room) × (gateway.room ≤ 256) }
     requires lane { (1 ≤ gateway.lane) × (gateway.lane ≤ 16384) }
     requires few { gateway.lines ≤ 2 ^ 39 }
     ensures { result ≡ record (rest_of gateway) { fulls = fulls } }
 {
-    let Gateway {
+    let DrivenGateway {
         slices,
         room,
         lane,

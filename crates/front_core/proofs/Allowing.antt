@@ -8,18 +8,18 @@ use Rattle.gate_model.specs.Events.{FewEvents}
 use Rattle.subscriber.specs.Standing.{SubscriberState}
 use Rattle.at_rest.specs.Rest.{AreAtRest, RestLeavesRoom}
 use Rattle.split_record.specs.declared.front.FrontEnd.{FrontEnd}
-use Rattle.front_halves.specs.declared.lot.Lot.{Lot}
-use Rattle.front_halves.specs.declared.lot.Lot.TheVariants.{Moved, Split}
-use Rattle.front_halves.specs.declared.halves.Halves.{Halves}
-use Rattle.front_halves.specs.Lots.{end_of}
-use Rattle.front_halves.specs.Steps.{MayAdmit, MayGive, MayMove}
-use Rattle.front_halves.specs.Views.{both, View, view_at}
+use Rattle.front_core.specs.declared.lot.Lot.{Lot}
+use Rattle.front_core.specs.declared.lot.Lot.TheVariants.{Moved, Split}
+use Rattle.front_core.specs.declared.halves.Halves.{Halves}
+use Rattle.front_core.specs.Lots.{end_of}
+use Rattle.front_core.specs.Steps.{MayAdmit, MayGive, MayMove}
+use Rattle.front_core.specs.Views.{both, View, view_at}
 use Rattle.front_core.specs.Keeping.{HalvesKeep, LotKeeps, SplitKeeps}
 
 rests_fresh : (slot lines latest : ℕ) (lot : Option Lot) (view : View) → LotKeeps slot lines latest lot view
-    → end_of lot ≡ None → (view.control ≡ None) × (view.flow ≡ None)
-rests_fresh slot lines latest None view keeps none = (keeps.no_control, keeps.no_flow)
-rests_fresh slot lines latest (Some Moved) view keeps none = (keeps.no_control, keeps.no_flow)
+    → end_of lot ≡ None → (view.control ≡ None) × (view.data_half ≡ None)
+rests_fresh slot lines latest None view keeps none = (keeps.no_control, keeps.no_data)
+rests_fresh slot lines latest (Some Moved) view keeps none = (keeps.no_control, keeps.no_data)
 rests_fresh slot lines latest (Some (Split end)) view keeps none = absurd (true≢false (ap is_some none))
 
 module _ (slices room lane slots lines latest asks : ℕ) (halves : Halves)
@@ -40,17 +40,17 @@ module _ (slices room lane slots lines latest asks : ℕ) (halves : Halves)
       let controls = controls_count in
       let desks = desks_count in
       let control = keeps.control_asked in
-      let flow = keeps.asked in
+      let data_half = keeps.asked in
       record {
         control_slice = omega (arith, controls, low);
-        flow_slice = omega (arith, desks, low);
+        data_slice = omega (arith, desks, low);
         control_asked = omega (arith, control, few);
-        flow_asked = omega (arith, flow, few);
+        data_asked = omega (arith, data_half, few);
         admitted = λ end is.
             let split : SplitKeeps slot lines latest end (view_at halves slot) =
             subst (λ (l : Option Lot). LotKeeps slot lines latest l (view_at halves slot)) is (keeps.views slot) in
             let hops = split.hops_few in
-            (split.control_admitted, split.flow_admitted, omega (arith, hops, short));
+            (split.control_admitted, split.data_admitted, omega (arith, hops, short));
       }
 
   pub may_give : (slot : ℕ) (end : FrontEnd) → (view_at halves slot).lot ≡ Some (Split end) → asks < 2 ^ 48
@@ -60,15 +60,15 @@ module _ (slices room lane slots lines latest asks : ℕ) (halves : Halves)
       subst (λ (l : Option Lot). LotKeeps slot lines latest l (view_at halves slot)) is (keeps.views slot) in
       let all = split.few in
       let counted = split.accepted.counted in
-      let flow = keeps.asked in
+      let data_half = keeps.asked in
       record {
         end = end;
         lot = is;
         own = split.own;
         sent_few = omega (arith, all, short);
         packets_few = omega (arith, all, counted, short);
-        admitted = split.flow_admitted;
-        asked = omega (arith, flow, few);
+        admitted = split.data_admitted;
+        asked = omega (arith, data_half, few);
       }
 
   pub may_admit : (slot all : ℕ) (subscribers : List SubscriberState) (was : SubscriberState) → RestLeavesRoom
@@ -79,7 +79,7 @@ module _ (slices room lane slots lines latest asks : ℕ) (halves : Halves)
       let controls = controls_count in
       let desks = desks_count in
       let control = keeps.control_asked in
-      let flow = keeps.asked in
+      let data_half = keeps.asked in
       let room_is = keeps.room_is in
       let least = roomy.0 in
       let most = roomy.1 in
@@ -88,8 +88,8 @@ module _ (slices room lane slots lines latest asks : ℕ) (halves : Halves)
         room = (omega (arith, room_is, least), omega (arith, room_is, most));
         leaves_room = leaves_room slices all latest slot (get_or subscribers slot was) few own;
         control_slice = (let bound = own.bound in omega (arith, bound, controls));
-        flow_slice = (let bound = own.bound in omega (arith, bound, desks));
+        data_slice = (let bound = own.bound in omega (arith, bound, desks));
         control_asked = omega (arith, control, asked_few);
-        flow_asked = omega (arith, flow, asked_few);
+        data_asked = omega (arith, data_half, asked_few);
         fresh = rests_fresh slot lines latest (view_at halves slot).lot (view_at halves slot) (keeps.views slot);
       })

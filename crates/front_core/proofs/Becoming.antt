@@ -8,15 +8,15 @@ use Rattle.lawful_run.specs.Trace.{meant_next}
 use Rattle.subscriber.specs.Standing.{SubscriberState}
 use Rattle.at_rest.specs.Meant.{Stand, Turned}
 use Rattle.at_rest.specs.Rest.{IsBehind, Rest}
-use Rattle.front_halves.specs.declared.halves.Halves.{Halves}
-use Rattle.front_core.specs.declared.taken.Open.{Open}
+use Rattle.front_core.specs.declared.halves.Halves.{Halves}
+use Rattle.front_core.specs.declared.taken.OpenEntry.{OpenEntry}
 use Rattle.front_core.specs.declared.taken.Taken.{Taken}
 use Rattle.front_core.specs.declared.took.Took.{Took}
 use Rattle.front_core.specs.Entries.{lines_of, took_of}
 use Rattle.front_core.specs.Keeping.{FrontKeeps}
 use Rattle.front_core.specs.Taking.{MayBecome, Takes}
 
-became : (n tries : ℕ) (now : Meaning) (open_ : Open) (subs after : List SubscriberState) (old new : Halves)
+became : (n tries : ℕ) (now : Meaning) (open_ : OpenEntry) (subs after : List SubscriberState) (old new : Halves)
     → Takes n tries now open_ subs after old new → MayBecome now (took_of open_)
 became n tries (command slot c) open_ subs after old new takes = elim takes.came [
   | inl came ↦ inl (ap took_of came.is)
@@ -31,7 +31,7 @@ became n tries (note text) open_ subs after old new takes = ap took_of takes.is
 
 pub becomes : (opened : Rest) (slices lane lines latest n tries : ℕ) (book book_now : List (List ℕ))
     (subs turned after : List SubscriberState) (old mid new : Halves) (entries : List Taken) (line : Line) (it : Meant)
-    (open_ : Open) → FrontKeeps opened slices lane lines latest book subs old entries
+    (open_ : OpenEntry) → FrontKeeps opened slices lane lines latest book subs old entries
     → Turned slices book subs line it book_now turned → Takes n tries (meaning_of it) open_ turned after mid new
     → (prior : List Line) → IsBehind opened prior
     → MayBecome (meant_next opened.slices (prior ++ lines_of entries) line) (took_of open_)

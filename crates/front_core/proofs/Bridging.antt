@@ -8,37 +8,37 @@ use Rattle.control_steps.specs.declared.command.CommandKind.{CommandKind}
 use Rattle.demux.specs.declared.packet.LentPacket.{LentPacket}
 use Rattle.subscriber.specs.Standing.{SubscriberState, commands_met}
 use Rattle.control_half.specs.declared.items.CommandItem.{CommandItem}
-use Rattle.counter_half.specs.declared.items.FlowItem.{FlowItem}
+use Rattle.counter_half.specs.declared.items.DataItem.{DataItem}
 use Rattle.split_record.specs.declared.front.FrontEnd.{FrontEnd}
 use Rattle.split_record.specs.Rejoined.{AreAccepted, IsItemOf, commands_sent}
-use Rattle.lines_kept.specs.Kept.{Ends, Load, new_ends, with_command, with_packet, moved_on}
-use Rattle.lines_kept.specs.Lines.{Goes, Eases, IsAdmitted, LaneWasFull, MayPark, Commands, Packets, newly}
-use Rattle.front_halves.specs.declared.lot.Lot.{Lot}
-use Rattle.front_halves.specs.declared.lot.Lot.TheVariants.{Moved, Split}
-use Rattle.front_halves.specs.declared.halves.Halves.{Halves}
-use Rattle.front_halves.specs.Lots.{EndSettles, EndMoved, EndSends, EndAccepts, LotSettles, LotMoves, end_of}
+use Rattle.front_core.specs.Kept.{Ends, Load, new_ends, with_command, with_packet, moved_on}
+use Rattle.front_core.specs.Lines.{Goes, Eases, IsAdmitted, LaneWasFull, MayPark, Commands, Packets, newly}
+use Rattle.front_core.specs.declared.lot.Lot.{Lot}
+use Rattle.front_core.specs.declared.lot.Lot.TheVariants.{Moved, Split}
+use Rattle.front_core.specs.declared.halves.Halves.{Halves}
+use Rattle.front_core.specs.Lots.{EndSettles, EndMoved, EndSends, EndAccepts, LotSettles, LotMoves, end_of}
 use Rattle.lane_core.specs.Ends.{sender_lane}
-use Rattle.front_halves.specs.Steps.{AreLanes, ViewSettles, OthersSettle, Settles, SlotMoves, SlotAdmits, IsReady, Commanded, CommandsFull, Received, PacketsFull}
-use Rattle.front_halves.specs.Views.{both, View, view_at, part_of, parts_of, own_of, moved_by, ends_of, lent_of, load_of}
-use Rattle.front_halves.proofs.Settling.{view_then, sides_then, settles_then}
-use Rattle.front_halves.proofs.Trying.{was_parked}
+use Rattle.front_core.specs.Steps.{AreLanes, ViewSettles, OthersSettle, Settles, SlotMoves, SlotAdmits, IsReady, Commanded, CommandsFull, Received, PacketsFull}
+use Rattle.front_core.specs.Views.{both, View, view_at, part_of, parts_of, own_of, moved_by, ends_of, lent_of, load_of}
+use Rattle.front_core.proofs.Settling.{view_then, sides_then, settles_then}
+use Rattle.front_core.proofs.Trying.{was_parked}
 use Rattle.front_core.specs.Ready.{Prepared}
 
 -- a front end that settled tells what it told
-ends_settle : (end after : FrontEnd) (accepted now : List FlowItem) → EndSettles end after → now ≡ accepted
+ends_settle : (end after : FrontEnd) (accepted now : List DataItem) → EndSettles end after → now ≡ accepted
     → ends_of after now ≡ ends_of end accepted
 ends_settle end after accepted now settles same = λ i. record {
   first_command = commands_met (settles.same.started i).value;
   first_packet = (settles.same.started i).value.packets;
   commands = map (λ (c : CommandItem). c.command) (settles.commands.0 i);
   command_floors = map (λ (c : CommandItem). c.floor) (settles.commands.0 i);
-  packets = map (λ (item : FlowItem). lent_of item.packet) (same i);
-  packet_floors = map (λ (item : FlowItem). item.floor) (same i);
+  packets = map (λ (item : DataItem). lent_of item.packet) (same i);
+  packet_floors = map (λ (item : DataItem). item.floor) (same i);
   commands_before = settles.floors.1 i;
   packets_before = settles.floors.0 i;
 }
 
-own_settles : (old new : Option Lot) (accepted now : List FlowItem) → LotSettles old new → now ≡ accepted
+own_settles : (old new : Option Lot) (accepted now : List DataItem) → LotSettles old new → now ≡ accepted
     → own_of new now ≡ own_of old accepted
 own_settles None new accepted now settles same = ap (λ l. own_of l now) settles
 own_settles (Some Moved) new accepted now settles same = ap (λ l. own_of l now) settles
@@ -59,7 +59,7 @@ eases old new settles = record {
 }
 
 -- one that moved
-ends_moved : (end after : FrontEnd) (accepted now : List FlowItem) → EndMoved end after → now ≡ accepted
+ends_moved : (end after : FrontEnd) (accepted now : List DataItem) → EndMoved end after → now ≡ accepted
     → AreAccepted end accepted → ends_of after now ≡ moved_on (ends_of end accepted)
 ends_moved end after accepted now moves same are =
     let counted = end.counted in
@@ -67,23 +67,23 @@ ends_moved end after accepted now moves same are =
     let commands : after.commands_before ≡ commands_met end.started.value
     + length (map (λ (c : CommandItem). c.command) (commands_sent end)) =
     moves.floors.1 ∙ omega (arith, counted, many) in
-    let all = length-map accepted (λ (item : FlowItem). lent_of item.packet) in
+    let all = length-map accepted (λ (item : DataItem). lent_of item.packet) in
     let packets_counted = are.counted in
     let packets : after.packets_before ≡ end.started.value.packets
-    + length (map (λ (item : FlowItem). lent_of item.packet) accepted) =
+    + length (map (λ (item : DataItem). lent_of item.packet) accepted) =
     moves.floors.0 ∙ omega (arith, packets_counted, all) in
     λ i. record {
       first_command = commands_met (moves.same.started i).value;
       first_packet = (moves.same.started i).value.packets;
       commands = map (λ (c : CommandItem). c.command) (moves.commands.0 i);
       command_floors = map (λ (c : CommandItem). c.floor) (moves.commands.0 i);
-      packets = map (λ (item : FlowItem). lent_of item.packet) (same i);
-      packet_floors = map (λ (item : FlowItem). item.floor) (same i);
+      packets = map (λ (item : DataItem). lent_of item.packet) (same i);
+      packet_floors = map (λ (item : DataItem). item.floor) (same i);
       commands_before = commands i;
       packets_before = packets i;
     }
 
-pub own_moves : (old new : Option Lot) (accepted now : List FlowItem) → LotMoves old new → now ≡ accepted
+pub own_moves : (old new : Option Lot) (accepted now : List DataItem) → LotMoves old new → now ≡ accepted
     → ((end : FrontEnd) → old ≡ Some (Split end) → AreAccepted end accepted)
     → own_of new now ≡ option_map {T = Ends} {U = Ends} moved_on (own_of old accepted)
 own_moves None new accepted now moves same are = ap (λ l. own_of l now) moves
@@ -92,7 +92,7 @@ own_moves (Some (Split end)) new accepted now moves same are =
     ap (λ l. own_of l now) moves.1 ∙ ap Some (ends_moved end moves.0 accepted now moves.2 same (are end refl))
 
 -- one that was split now
-pub ends_new : (end : FrontEnd) (was : SubscriberState) (accepted : List FlowItem) → end.started.value ≡ was
+pub ends_new : (end : FrontEnd) (was : SubscriberState) (accepted : List DataItem) → end.started.value ≡ was
     → commands_sent end ≡ [] → (end.commands_before ≡ commands_met was) × (end.packets_before ≡ was.packets)
     → accepted ≡ [] → ends_of end accepted ≡ new_ends (commands_met was) was.packets
 ends_new end was accepted started none floors nothing = λ i. record {
@@ -100,14 +100,14 @@ ends_new end was accepted started none floors nothing = λ i. record {
   first_packet = (started i).packets;
   commands = map (λ (c : CommandItem). c.command) (none i);
   command_floors = map (λ (c : CommandItem). c.floor) (none i);
-  packets = map (λ (item : FlowItem). lent_of item.packet) (nothing i);
-  packet_floors = map (λ (item : FlowItem). item.floor) (nothing i);
+  packets = map (λ (item : DataItem). lent_of item.packet) (nothing i);
+  packet_floors = map (λ (item : DataItem). item.floor) (nothing i);
   commands_before = floors.0 i;
   packets_before = floors.1 i;
 }
 
 -- one that sent a command
-pub ends_sends : (line : ℕ) (c : CommandKind) (end after : FrontEnd) (accepted now : List FlowItem)
+pub ends_sends : (line : ℕ) (c : CommandKind) (end after : FrontEnd) (accepted now : List DataItem)
     → EndSends line c end after → now ≡ accepted → ends_of after now ≡ with_command c (ends_of end accepted)
 ends_sends line c end after accepted now sends same =
     let one : CommandItem = record {
@@ -126,24 +126,24 @@ ends_sends line c end after accepted now sends same =
       first_packet = (sends.same.started i).value.packets;
       commands = commands i;
       command_floors = floors i;
-      packets = map (λ (item : FlowItem). lent_of item.packet) (same i);
-      packet_floors = map (λ (item : FlowItem). item.floor) (same i);
+      packets = map (λ (item : DataItem). lent_of item.packet) (same i);
+      packet_floors = map (λ (item : DataItem). item.floor) (same i);
       commands_before = sends.floors.1 i;
       packets_before = sends.floors.0 i;
     }
 
 -- one of which an item was accepted
-pub ends_accepts : (line : ℕ) (parked : Bool) (packet : Packet) (item : FlowItem) (end after : FrontEnd)
-    (accepted now : List FlowItem) → EndAccepts end after → IsItemOf end line parked packet item
+pub ends_accepts : (line : ℕ) (parked : Bool) (packet : Packet) (item : DataItem) (end after : FrontEnd)
+    (accepted now : List DataItem) → EndAccepts end after → IsItemOf end line parked packet item
     → now ≡ accepted ++ item ∷ []
     → ends_of after now ≡ with_packet (lent_of packet) (ends_of end accepted)
 ends_accepts line parked packet item end after accepted now accepts made more =
-    let packets = ap (map (λ (i : FlowItem). lent_of i.packet)) more
-    ∙ map-append (λ (i : FlowItem). lent_of i.packet) accepted (item ∷ [])
-    ∙ ap (λ p. map (λ (i : FlowItem). lent_of i.packet) accepted ++ lent_of p ∷ []) made.packet_is in
-    let floors = ap (map (λ (i : FlowItem). i.floor)) more
-    ∙ map-append (λ (i : FlowItem). i.floor) accepted (item ∷ [])
-    ∙ ap (λ f. map (λ (i : FlowItem). i.floor) accepted ++ f ∷ []) made.floor in
+    let packets = ap (map (λ (i : DataItem). lent_of i.packet)) more
+    ∙ map-append (λ (i : DataItem). lent_of i.packet) accepted (item ∷ [])
+    ∙ ap (λ p. map (λ (i : DataItem). lent_of i.packet) accepted ++ lent_of p ∷ []) made.packet_is in
+    let floors = ap (map (λ (i : DataItem). i.floor)) more
+    ∙ map-append (λ (i : DataItem). i.floor) accepted (item ∷ [])
+    ∙ ap (λ f. map (λ (i : DataItem). i.floor) accepted ++ f ∷ []) made.floor in
     λ i. record {
       first_command = commands_met (accepts.same.started i).value;
       first_packet = (accepts.same.started i).value.packets;
@@ -181,7 +181,7 @@ newly_same own other same = ap {B = ℕ} newly same
 none_newly : (own : Option Ends) → own ≡ None → newly own ≡ 1
 none_newly own none = ap {B = ℕ} newly none
 
-own_none : (lot : Option Lot) (accepted : List FlowItem) → end_of lot ≡ None → own_of lot accepted ≡ None
+own_none : (lot : Option Lot) (accepted : List DataItem) → end_of lot ≡ None → own_of lot accepted ≡ None
 own_none None accepted none = refl
 own_none (Some Moved) accepted none = refl
 own_none (Some (Split end)) accepted none = absurd (true≢false (ap is_some none))
@@ -382,7 +382,7 @@ pub packets_full : (room lane slot : ℕ) (p : LentPacket) (old mid new : Halves
     → Packets room lane slot p false false (parts_of old) (parts_of new) (load_of old) (load_of new)
 packets_full room lane slot p old mid new ready settles lanes rooms full =
     let eased = eases (view_at mid slot) (view_at new slot) (settles.views slot) in
-    let many = length-map (view_at mid slot).accepted (λ (item : FlowItem). lent_of item.packet) in
+    let many = length-map (view_at mid slot).accepted (λ (item : DataItem). lent_of item.packet) in
     let accepted = ap (λ (l : Load). l.accepted) settles.load in
     let admitted = ap (λ (l : Load). l.admitted) settles.load in
     let asked = ap (λ (l : Load). l.asked) settles.load in

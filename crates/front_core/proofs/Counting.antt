@@ -1,7 +1,7 @@
 -- How the count of full answers rises with a command or packet, once its subscriber is split.
 use Rattle.std.proofs.Common.{◌≡◌, ℕ, Bool, ap, ◌∙◌}
-use Rattle.front_halves.specs.declared.tried.Given.TheVariants as given
-use Rattle.front_halves.specs.Tries.{CountsTries, raised_by}
+use Rattle.front_core.specs.declared.tried.Given.TheVariants as given
+use Rattle.front_core.specs.Tries.{CountsTries, raised_by}
 use Rattle.front_core.specs.declared.took.Took.TheVariants as answer
 use Rattle.front_core.specs.Counting.{TookTries}
 

@@ -19,16 +19,16 @@ use Rattle.at_rest.specs.Rest.{AreAtRest, Rest}
 use Rattle.demux.specs.declared.meant.Meant.{Meant}
 use Rattle.demux.specs.Meant.{meaning_of}
 use Rattle.at_rest.proofs.Resting.{goes_on, new_rests}
-use Rattle.epoch_join.specs.Opened.{open_command, open_packet}
-use Rattle.lines_kept.specs.Kept.{LinesKept, Load}
-use Rattle.lines_kept.specs.Lines.{noted}
-use Rattle.lines_kept.proofs.Keeps.{kept_noted, kept_moved, kept_command, kept_packet}
-use Rattle.front_halves.specs.declared.halves.Halves.{Halves}
-use Rattle.front_halves.specs.Steps.{AreLanes, Commanded, Received, Settles, SlotAdmits, SlotMoves, WasSplit}
-use Rattle.front_halves.specs.Views.{load_of, parts_of, view_at}
-use Rattle.front_halves.proofs.Settling.{settles_none, settles_then}
+use Rattle.lawful_run.specs.Opened.{open_command, open_packet}
+use Rattle.front_core.specs.Kept.{LinesKept, Load}
+use Rattle.front_core.specs.Lines.{noted}
+use Rattle.front_core.proofs.Keeps.{kept_noted, kept_moved, kept_command, kept_packet}
+use Rattle.front_core.specs.declared.halves.Halves.{Halves}
+use Rattle.front_core.specs.Steps.{AreLanes, Commanded, Received, Settles, SlotAdmits, SlotMoves, WasSplit}
+use Rattle.front_core.specs.Views.{load_of, parts_of, view_at}
+use Rattle.front_core.proofs.Settling.{settles_none, settles_then}
 use Rattle.front_core.proofs.Moved.{goes_to}
-use Rattle.front_core.specs.declared.taken.Open.{Open}
+use Rattle.front_core.specs.declared.taken.OpenEntry.{OpenEntry}
 use Rattle.front_core.specs.declared.taken.Taken.{Taken}
 use Rattle.front_core.specs.Entries.{lines_of, open_of, opens_of}
 use Rattle.front_core.specs.Keeping.{AreStarts, FrontKeeps, HalvesKeep, starts_of, unless_split}
@@ -200,7 +200,7 @@ KeptMore slices room lane first made entries now told new =
 
 -- a line does both
 pub record LineGoes (slices room lane slots lines latest later n : ℕ) (subs after : List SubscriberState)
-    (old new : Halves) (now : Meaning) (open_ : Open) : Type 0 where
+    (old new : Halves) (now : Meaning) (open_ : OpenEntry) : Type 0 where
   pub goes : GoesOn slices room lane slots lines latest later subs after old new
   pub told : (first : ℕ) (made : List Meaning) (entries : List LineEntry) → n ≡ first + length made
       → LinesKept slices room lane first made entries (parts_of old) (load_of old)
@@ -219,14 +219,14 @@ module _ (slices room lane lines latest later n : ℕ) (subs : List SubscriberSt
   mid_keeps : HalvesKeep slices room lane (length subs) lines latest (2 * lines) mid
   mid_keeps = halves_settle slices room lane (length subs) lines latest (2 * lines) old mid pump keeps
 
-  same_goes : (after : List SubscriberState) (now : Meaning) (open_ : Open) → after ≡ subs
+  same_goes : (after : List SubscriberState) (now : Meaning) (open_ : OpenEntry) → after ≡ subs
       → LineGoes slices room lane (length subs) lines latest later n subs subs old new now open_
       → LineGoes slices room lane (length subs) lines latest later n subs after old new now open_
   same_goes after now open_ same goes =
       subst (λ (l : List SubscriberState). LineGoes slices room lane (length subs) lines latest later n subs l old new now
       open_) (sym same) goes
 
-  note_goes : (text : List ℕ) (open_ : Open) (after : List SubscriberState) → TakesNote text open_ subs after mid new
+  note_goes : (text : List ℕ) (open_ : OpenEntry) (after : List SubscriberState) → TakesNote text open_ subs after mid new
       → LineGoes slices room lane (length subs) lines latest later n subs after old new (note text) open_
   note_goes text open_ after takes =
       let whole = settles_then old mid new pump takes.still in
@@ -241,7 +241,7 @@ module _ (slices room lane lines latest later n : ℕ) (subs : List SubscriberSt
             (λ slot. eases (view_at old slot) (view_at new slot) (whole.views slot))));
       })
 
-  move_on : (slot slice : ℕ) (text : List ℕ) (open_ : Open) (after : List SubscriberState)
+  move_on : (slot slice : ℕ) (text : List ℕ) (open_ : OpenEntry) (after : List SubscriberState)
       → TakesMove slot slice text open_ subs after mid new → slot < length subs
       → LineGoes slices room lane (length subs) lines latest later n subs after old new (move slot slice text) open_
   move_on slot slice text open_ after takes low =
@@ -282,7 +282,7 @@ module _ (slices room lane lines latest later n : ℕ) (subs : List SubscriberSt
         keeps = ready.keeps;
       }
 
-  command_on : (all slot line tries : ℕ) (c : CommandKind) (open_ : Open) (after : List SubscriberState)
+  command_on : (all slot line tries : ℕ) (c : CommandKind) (open_ : OpenEntry) (after : List SubscriberState)
       → AreAtRest slices all latest subs → TakesCommand slot line tries c open_ subs after mid new
       → LineGoes slices room lane (length subs) lines latest later n subs after old new (command slot c) open_
   command_on all slot line tries c open_ after rest takes =
@@ -317,7 +317,7 @@ module _ (slices room lane lines latest later n : ℕ) (subs : List SubscriberSt
             }
       ]
 
-  packet_on : (all slot line tries : ℕ) (p : LentPacket) (open_ : Open) (after : List SubscriberState)
+  packet_on : (all slot line tries : ℕ) (p : LentPacket) (open_ : OpenEntry) (after : List SubscriberState)
       → AreAtRest slices all latest subs → p.moment ≡ later → TakesPacket slot line tries p open_ subs after mid new
       → LineGoes slices room lane (length subs) lines latest later n subs after old new (packet slot p) open_
   packet_on all slot line tries p open_ after rest moment takes =
@@ -358,7 +358,7 @@ module _ (slices room lane lines latest later n : ℕ) (subs : List SubscriberSt
             }
       ]
 
-  pub line_goes : (all line tries : ℕ) (now : Meaning) (open_ : Open) (after : List SubscriberState)
+  pub line_goes : (all line tries : ℕ) (now : Meaning) (open_ : OpenEntry) (after : List SubscriberState)
       → AreAtRest slices all latest subs → IsTo slices (length subs) now → HasItsMoment later now
       → Takes line tries now open_ subs after mid new
       → LineGoes slices room lane (length subs) lines latest later n subs after old new now open_

@@ -10,25 +10,25 @@ use Rattle.pc_base.specs.declared.packet.Packet.{Packet}
 use Rattle.worker_core.specs.Workers.{Lanes}
 use Rattle.subscriber.specs.Standing.{SubscriberState, commands_met, last_of}
 use Rattle.control_half.specs.Named as control_named
-use Rattle.counter_half.specs.Named as flow_named
+use Rattle.counter_half.specs.Named as data_named
 use Rattle.control_half.specs.declared.items.CommandItem.{CommandItem}
-use Rattle.counter_half.specs.declared.items.FlowItem.{FlowItem}
+use Rattle.counter_half.specs.declared.items.DataItem.{DataItem}
 use Rattle.counter_half.specs.Tells.{AreLate}
 use Rattle.split_record.specs.declared.front.FrontEnd.{FrontEnd}
 use Rattle.split_record.specs.Accepted.{MayStand, AreNumbered}
 use Rattle.split_record.specs.Rejoined.{AreAccepted, IsSameFront, IsItemOf, commands_sent, start_of}
-use Rattle.lines_kept.specs.Kept.{Load}
-use Rattle.front_halves.specs.declared.lot.Lot.{Lot}
-use Rattle.front_halves.specs.declared.lot.Lot.TheVariants.{Moved, Split}
-use Rattle.front_halves.specs.declared.halves.Halves.{Halves}
-use Rattle.front_halves.specs.Lots.{EndMoved, EndSends, EndAccepts, LotSettles, LotMoves, end_of}
-use Rattle.front_halves.specs.Steps.{AreOneSplit, OthersSettle, ViewSettles, SidesKeep, Settles, SlotMoves, SlotAdmits, Commanded, Received}
-use Rattle.front_halves.specs.Views.{both, View, view_at, load_of}
+use Rattle.front_core.specs.Kept.{Load}
+use Rattle.front_core.specs.declared.lot.Lot.{Lot}
+use Rattle.front_core.specs.declared.lot.Lot.TheVariants.{Moved, Split}
+use Rattle.front_core.specs.declared.halves.Halves.{Halves}
+use Rattle.front_core.specs.Lots.{EndMoved, EndSends, EndAccepts, LotSettles, LotMoves, end_of}
+use Rattle.front_core.specs.Steps.{AreOneSplit, OthersSettle, ViewSettles, SidesKeep, Settles, SlotMoves, SlotAdmits, Commanded, Received}
+use Rattle.front_core.specs.Views.{both, View, view_at, load_of}
 use Rattle.front_core.specs.Keeping.{SplitKeeps, RestsHere, LotKeeps, ViewKeeps, HalvesKeep}
 use Rattle.front_core.proofs.Bridging.{split_same}
 
 -- a front end whose origin and lane are the same has halves of the same split
-one_same : (end after : FrontEnd) (half : control_named.Named) (counter : flow_named.Named) → IsSameFront end after
+one_same : (end after : FrontEnd) (half : control_named.Named) (counter : data_named.Named) → IsSameFront end after
     → AreOneSplit end half counter → AreOneSplit after half counter
 one_same end after half counter same one = record {
   session = one.session ∙ ap (λ s. s.value.session) (sym same.started);
@@ -39,7 +39,7 @@ one_same end after half counter same one = record {
 }
 
 -- what was accepted stays so where no packet and no command was counted
-accepted_same : (end after : FrontEnd) (items : List FlowItem) → IsSameFront end after
+accepted_same : (end after : FrontEnd) (items : List DataItem) → IsSameFront end after
     → commands_sent after ≡ commands_sent end → after.packets ≡ end.packets → AreAccepted end items
     → AreAccepted after items
 accepted_same end after items same commands packets are = record {
@@ -49,16 +49,16 @@ accepted_same end after items same commands packets are = record {
   standing = subst (λ n. All (MayStand n (commands_sent after)) items)
       (ap (λ s. commands_met s.value) (sym same.started))
       (subst (λ cs. All (MayStand (commands_met (start_of end)) cs) items) (sym commands) are.standing);
-  late = subst (λ n. AreLate (unwrap_or n 0) (map (λ (i : FlowItem). i.packet.moment) items))
+  late = subst (λ n. AreLate (unwrap_or n 0) (map (λ (i : DataItem). i.packet.moment) items))
       (ap (λ s. last_of s.value) (sym same.started)) are.late;
 }
 
 -- a split subscriber of which nothing was counted
 split_still : (slot lines latest : ℕ) (end after : FrontEnd) (old new : View) → IsSameFront end after
     → commands_sent after ≡ commands_sent end → after.packets ≡ end.packets → after.hop ≡ end.hop
-    → new.control ≡ old.control → new.flow ≡ old.flow → new.accepted ≡ old.accepted
+    → new.control ≡ old.control → new.data_half ≡ old.data_half → new.accepted ≡ old.accepted
     → SplitKeeps slot lines latest end old → SplitKeeps slot lines latest after new
-split_still slot lines latest end after old new same commands packets hop control flow accepted keeps =
+split_still slot lines latest end after old new same commands packets hop control data_half accepted keeps =
     let sent = ap length commands in
     let many = ap length accepted in
     let few = keeps.few in
@@ -66,24 +66,24 @@ split_still slot lines latest end after old new same commands packets hop contro
     record {
       own = same.slot ∙ keeps.own;
       control_admitted = ap is_some control ∙ keeps.control_admitted;
-      flow_admitted = ap is_some flow ∙ keeps.flow_admitted;
+      data_admitted = ap is_some data_half ∙ keeps.data_admitted;
       names = λ half counter here there.
           one_same end after half counter same
-          (keeps.names half counter (sym control ∙ here) (sym flow ∙ there));
+          (keeps.names half counter (sym control ∙ here) (sym data_half ∙ there));
       accepted = subst (AreAccepted after) (sym accepted)
           (accepted_same end after old.accepted same commands packets keeps.accepted);
-      late = subst (All (λ (i : FlowItem). i.packet.moment ≤ latest)) (sym accepted) keeps.late;
+      late = subst (All (λ (i : DataItem). i.packet.moment ≤ latest)) (sym accepted) keeps.late;
       late_start = subst (λ n. unwrap_or n 0 ≤ latest) (ap (λ s. last_of s.value) (sym same.started))
           keeps.late_start;
       few = omega (arith, sent, many, few);
       hops_few = omega (arith, hop, hops);
     }
 
-rests_still : (old new : View) → new.control ≡ old.control → new.flow ≡ old.flow
+rests_still : (old new : View) → new.control ≡ old.control → new.data_half ≡ old.data_half
     → (old.parks ≡ false → new.parks ≡ false) → RestsHere old → RestsHere new
-rests_still old new control flow parks rests = record {
+rests_still old new control data_half parks rests = record {
   no_control = control ∙ rests.no_control;
-  no_flow = flow ∙ rests.no_flow;
+  no_data = data_half ∙ rests.no_data;
   no_parks = parks rests.no_parks;
 }
 
@@ -91,14 +91,14 @@ lot_keeps_settled : (slot lines latest : ℕ) (was is : Option Lot) (old new : V
     → ViewSettles old new → LotKeeps slot lines latest was old → LotKeeps slot lines latest is new
 lot_keeps_settled slot lines latest None is old new settles view keeps =
     subst (λ l. LotKeeps slot lines latest l new) (sym settles)
-    (rests_still old new view.control view.flow view.parks keeps)
+    (rests_still old new view.control view.data_half view.parks keeps)
 lot_keeps_settled slot lines latest (Some Moved) is old new settles view keeps =
     subst (λ l. LotKeeps slot lines latest l new) (sym settles)
-    (rests_still old new view.control view.flow view.parks keeps)
+    (rests_still old new view.control view.data_half view.parks keeps)
 lot_keeps_settled slot lines latest (Some (Split end)) is old new settles view keeps =
     subst (λ l. LotKeeps slot lines latest l new) (sym settles.1)
     (split_still slot lines latest end settles.0 old new settles.2.same settles.2.commands.0 settles.2.packets
-    settles.2.hop view.control view.flow view.accepted keeps)
+    settles.2.hop view.control view.data_half view.accepted keeps)
 
 pub view_keeps : (slot lines latest : ℕ) (old new : View) → ViewSettles old new → ViewKeeps slot lines latest old
     → ViewKeeps slot lines latest new
@@ -115,10 +115,10 @@ split_later slot lines latest more later end view le late keeps =
     record {
       own = keeps.own;
       control_admitted = keeps.control_admitted;
-      flow_admitted = keeps.flow_admitted;
+      data_admitted = keeps.data_admitted;
       names = keeps.names;
       accepted = keeps.accepted;
-      late = All-weaker (λ (i : FlowItem). i.packet.moment ≤ latest) (λ (i : FlowItem). i.packet.moment ≤ later)
+      late = All-weaker (λ (i : DataItem). i.packet.moment ≤ latest) (λ (i : DataItem). i.packet.moment ≤ later)
           (λ i here. omega (arith, here, late)) view.accepted keeps.late;
       late_start = omega (arith, start, late);
       few = omega (arith, few, le);
@@ -172,7 +172,7 @@ halves_settle slices room lane slots lines latest asks old new settles keeps =
           (keeps.within slot past);
       lots_few = omega (arith, lots, few);
       controls_are = lanes ∙ keeps.controls_are;
-      lanes_are = ap (map (λ (l : Lanes). l.0.room)) settles.sides.flow_lanes ∙ keeps.lanes_are;
+      lanes_are = ap (map (λ (l : Lanes). l.0.room)) settles.sides.data_lanes ∙ keeps.lanes_are;
       queues_are = settles.sides.queues ∙ keeps.queues_are;
       room_is = settles.sides.room ∙ keeps.room_is;
       rooms = λ slot. rooms_settled room (view_at old slot).lot (view_at new slot).lot (settles.views slot).lot
@@ -228,16 +228,16 @@ by_slot P slot own rest other = elim (cases_eq other slot) [
 
 -- a slot moved
 lot_keeps_moved : (slot lines latest : ℕ) (was is : Option Lot) (old new : View) → LotMoves was is
-    → new.control ≡ old.control → new.flow ≡ old.flow → new.accepted ≡ old.accepted
+    → new.control ≡ old.control → new.data_half ≡ old.data_half → new.accepted ≡ old.accepted
     → (end_of was ≡ None → new.parks ≡ old.parks) → LotKeeps slot lines latest was old
     → LotKeeps slot (lines + 1) latest is new
-lot_keeps_moved slot lines latest None is old new moves control flow accepted parks keeps =
+lot_keeps_moved slot lines latest None is old new moves control data_half accepted parks keeps =
     subst (λ l. LotKeeps slot (lines + 1) latest l new) (sym moves)
-    (rests_still old new control flow (λ rests. parks refl ∙ rests) keeps)
-lot_keeps_moved slot lines latest (Some Moved) is old new moves control flow accepted parks keeps =
+    (rests_still old new control data_half (λ rests. parks refl ∙ rests) keeps)
+lot_keeps_moved slot lines latest (Some Moved) is old new moves control data_half accepted parks keeps =
     subst (λ l. LotKeeps slot (lines + 1) latest l new) (sym moves)
-    (rests_still old new control flow (λ rests. parks refl ∙ rests) keeps)
-lot_keeps_moved slot lines latest (Some (Split end)) is old new moves control flow accepted parks keeps =
+    (rests_still old new control data_half (λ rests. parks refl ∙ rests) keeps)
+lot_keeps_moved slot lines latest (Some (Split end)) is old new moves control data_half accepted parks keeps =
     let after : FrontEnd = moves.0 in
     let goes : EndMoved end after = moves.2 in
     let sent = ap length goes.commands.0 in
@@ -248,13 +248,13 @@ lot_keeps_moved slot lines latest (Some (Split end)) is old new moves control fl
     subst (λ l. LotKeeps slot (lines + 1) latest l new) (sym moves.1) (record {
       own = goes.same.slot ∙ keeps.own;
       control_admitted = ap is_some control ∙ keeps.control_admitted;
-      flow_admitted = ap is_some flow ∙ keeps.flow_admitted;
+      data_admitted = ap is_some data_half ∙ keeps.data_admitted;
       names = λ half counter here there.
           one_same end after half counter goes.same
-          (keeps.names half counter (sym control ∙ here) (sym flow ∙ there));
+          (keeps.names half counter (sym control ∙ here) (sym data_half ∙ there));
       accepted = subst (AreAccepted after) (sym accepted)
           (accepted_same end after old.accepted goes.same goes.commands.0 goes.packets keeps.accepted);
-      late = subst (All (λ (i : FlowItem). i.packet.moment ≤ latest)) (sym accepted) keeps.late;
+      late = subst (All (λ (i : DataItem). i.packet.moment ≤ latest)) (sym accepted) keeps.late;
       late_start = subst (λ n. unwrap_or n 0 ≤ latest) (ap (λ s. last_of s.value) (sym goes.same.started))
           keeps.late_start;
       few = omega (arith, sent, many, few);
@@ -292,7 +292,7 @@ module _ (slices room lane slots lines latest more later asks many slot : ℕ) (
         (others other (λ same. omega (arith, past, low, same))).lot (keeps.within other past);
     lots_few = lots;
     controls_are = ap length sides.control_lanes ∙ keeps.controls_are;
-    lanes_are = ap (map (λ (l : Lanes). l.0.room)) sides.flow_lanes ∙ keeps.lanes_are;
+    lanes_are = ap (map (λ (l : Lanes). l.0.room)) sides.data_lanes ∙ keeps.lanes_are;
     queues_are = sides.queues ∙ keeps.queues_are;
     room_is = sides.room ∙ keeps.room_is;
     rooms = by_slot (λ other. (end : FrontEnd) → (view_at new other).lot ≡ Some (Split end)
@@ -316,7 +316,7 @@ halves_move slices room lane slots lines latest asks slot old new moves low lots
     one_changes slices room lane slots lines latest (lines + 1) latest asks (asks + 1) slot old new moves.others
     moves.sides low lots (omega arith) (omega arith) keeps
     (lot_keeps_moved slot lines latest (view_at old slot).lot (view_at new slot).lot (view_at old slot)
-    (view_at new slot) moves.lot moves.control moves.flow moves.accepted moves.parks (keeps.views slot))
+    (view_at new slot) moves.lot moves.control moves.data_half moves.accepted moves.parks (keeps.views slot))
     (rooms_moved room (view_at old slot).lot (view_at new slot).lot moves.lot (keeps.rooms slot))
     (omega (arith, control, control_few)) (omega (arith, asked, asked_few))
 
@@ -330,7 +330,7 @@ late_push least latest moment (m ∷ moments) late below first last = (
       (All-head (λ (m : ℕ). m ≤ latest) m moments below) last,
 )
 
-numbered_push : (slot number : ℕ) (items : List FlowItem) (item : FlowItem) → AreNumbered slot number items
+numbered_push : (slot number : ℕ) (items : List DataItem) (item : DataItem) → AreNumbered slot number items
     → item.slot ≡ slot → item.number ≡ number + length items → item.packet.number ≡ number + length items
     → AreNumbered slot number (items ++ item ∷ [])
 numbered_push slot number [] item are own is packet = (
@@ -350,7 +350,7 @@ numbered_push slot number (first ∷ items) item are own is packet = (
 take_front : {X : Type 0} (n : ℕ) (xs ys : List X) → n ≤ length xs → take n (xs ++ ys) ≡ take n xs
 take_front n xs ys le = take-append-le n xs ys le
 
-stands_more : (first : ℕ) (commands : List CommandItem) (more : List CommandItem) (item : FlowItem)
+stands_more : (first : ℕ) (commands : List CommandItem) (more : List CommandItem) (item : DataItem)
     → MayStand first commands item → MayStand first (commands ++ more) item
 stands_more first commands more item stands =
     let floor = stands.floor in
@@ -362,7 +362,7 @@ stands_more first commands more item stands =
     }
 
 -- a command was sent, and an item was accepted
-accepted_sends : (line : ℕ) (c : CommandKind) (end after : FrontEnd) (items : List FlowItem)
+accepted_sends : (line : ℕ) (c : CommandKind) (end after : FrontEnd) (items : List DataItem)
     → EndSends line c end after → AreAccepted end items → AreAccepted after items
 accepted_sends line c end after items sends are =
     let one : CommandItem = record {
@@ -383,7 +383,7 @@ accepted_sends line c end after items sends are =
           (MayStand (commands_met (start_of end)) (commands_sent end ++ one ∷ []))
           (λ item stands. stands_more (commands_met (start_of end)) (commands_sent end) (one ∷ []) item stands) items
           are.standing));
-      late = subst (λ n. AreLate (unwrap_or n 0) (map (λ (i : FlowItem). i.packet.moment) items))
+      late = subst (λ n. AreLate (unwrap_or n 0) (map (λ (i : DataItem). i.packet.moment) items))
           (ap (λ s. last_of s.value) (sym sends.same.started)) are.late;
     }
 
@@ -414,10 +414,10 @@ split_new slot lines latest was is old new admits late =
     record {
       own = admits.own;
       control_admitted = ap is_some admits.control;
-      flow_admitted = ap is_some admits.flow;
+      data_admitted = ap is_some admits.data_half;
       names = λ half counter here there.
           let half_is : admits.half ≡ half = (let both_are = sym admits.control ∙ here in cc) in
-          let counter_is : admits.counter ≡ counter = (let both_are = sym admits.flow ∙ there in cc) in
+          let counter_is : admits.counter ≡ counter = (let both_are = sym admits.data_half ∙ there in cc) in
           subst (λ (h : control_named.Named). AreOneSplit admits.end h counter) half_is
           (subst (AreOneSplit admits.end admits.half) counter_is admits.one);
       accepted = subst (AreAccepted admits.end) (sym admits.accepted) (record {
@@ -426,8 +426,8 @@ split_new slot lines latest was is old new admits late =
         standing = All-nil (MayStand (commands_met (start_of admits.end)) (commands_sent admits.end));
         late = tt;
       });
-      late = subst (All (λ (i : FlowItem). i.packet.moment ≤ latest)) (sym admits.accepted)
-          (All-nil (λ (i : FlowItem). i.packet.moment ≤ latest));
+      late = subst (All (λ (i : DataItem). i.packet.moment ≤ latest)) (sym admits.accepted)
+          (All-nil (λ (i : DataItem). i.packet.moment ≤ latest));
       late_start = subst (λ (s : SubscriberState). unwrap_or (last_of s) 0 ≤ latest) (sym admits.started) late;
       few = omega (arith, none, nothing);
       hops_few = omega (arith, hop);
@@ -452,9 +452,9 @@ halves_admit slices room lane slots lines latest asks slot was is old new admits
 
 -- a command more
 split_sends : (slot lines latest line : ℕ) (c : CommandKind) (end after : FrontEnd) (old new : View)
-    → EndSends line c end after → new.control ≡ old.control → new.flow ≡ old.flow → new.accepted ≡ old.accepted
+    → EndSends line c end after → new.control ≡ old.control → new.data_half ≡ old.data_half → new.accepted ≡ old.accepted
     → SplitKeeps slot lines latest end old → SplitKeeps slot (lines + 1) latest after new
-split_sends slot lines latest line c end after old new sends control flow accepted keeps =
+split_sends slot lines latest line c end after old new sends control data_half accepted keeps =
     let one : CommandItem = record {
       number = end.commands;
       hop = end.hop;
@@ -470,13 +470,13 @@ split_sends slot lines latest line c end after old new sends control flow accept
     record {
       own = sends.same.slot ∙ keeps.own;
       control_admitted = ap is_some control ∙ keeps.control_admitted;
-      flow_admitted = ap is_some flow ∙ keeps.flow_admitted;
+      data_admitted = ap is_some data_half ∙ keeps.data_admitted;
       names = λ half counter here there.
           one_same end after half counter sends.same
-          (keeps.names half counter (sym control ∙ here) (sym flow ∙ there));
+          (keeps.names half counter (sym control ∙ here) (sym data_half ∙ there));
       accepted = subst (AreAccepted after) (sym accepted)
           (accepted_sends line c end after old.accepted sends keeps.accepted);
-      late = subst (All (λ (i : FlowItem). i.packet.moment ≤ latest)) (sym accepted) keeps.late;
+      late = subst (All (λ (i : DataItem). i.packet.moment ≤ latest)) (sym accepted) keeps.late;
       late_start = subst (λ n. unwrap_or n 0 ≤ latest) (ap (λ s. last_of s.value) (sym sends.same.started))
           keeps.late_start;
       few = omega (arith, sent, many, few);
@@ -499,16 +499,16 @@ halves_command slices room lane slots lines latest asks slot line c old new does
     does.sides low (omega (arith, lots, lots_few)) (omega arith) (omega arith) keeps
     (view_split slot (lines + 1) latest does.after (view_at new slot) does.is
     (split_sends slot lines latest line c does.end does.after (view_at old slot) (view_at new slot) does.sends
-    does.control does.flow does.accepted
+    does.control does.data_half does.accepted
     (split_keeps slot lines latest does.end (view_at old slot) does.was (keeps.views slot))))
     (rooms_one room (view_at new slot).lot does.after does.is rooms)
     (omega (arith, control, control_few)) (omega (arith, asked, asked_few))
 
 -- a packet more
-accepted_more : (line latest : ℕ) (parked : Bool) (packet : Packet) (end after : FrontEnd) (items : List FlowItem)
-    (item : FlowItem) → EndAccepts end after → IsItemOf end line parked packet item
+accepted_more : (line latest : ℕ) (parked : Bool) (packet : Packet) (end after : FrontEnd) (items : List DataItem)
+    (item : DataItem) → EndAccepts end after → IsItemOf end line parked packet item
     → MayStand (commands_met end.started.value) (commands_sent end) item
-    → All (λ (i : FlowItem). i.packet.moment ≤ latest) items → unwrap_or (last_of (start_of end)) 0 ≤ latest
+    → All (λ (i : DataItem). i.packet.moment ≤ latest) items → unwrap_or (last_of (start_of end)) 0 ≤ latest
     → latest ≤ packet.moment → AreAccepted end items → AreAccepted after (items ++ item ∷ [])
 accepted_more line latest parked packet end after items item accepts made stands late start moment are =
     let counted = are.counted in
@@ -521,11 +521,11 @@ accepted_more line latest parked packet end after items item accepts made stands
     ap (λ (p : Packet). p.number) made.packet_is ∙ are.counted in
     let at : item.packet.moment ≡ packet.moment = ap (λ (p : Packet). p.moment) made.packet_is in
     let least : ℕ = unwrap_or (last_of (start_of end)) 0 in
-    let moments : List ℕ = map (λ (i : FlowItem). i.packet.moment) items in
-    let later : AreLate least (map (λ (i : FlowItem). i.packet.moment) (items ++ item ∷ [])) =
-    subst (AreLate least) (sym (map-append (λ (i : FlowItem). i.packet.moment) items (item ∷ [])))
+    let moments : List ℕ = map (λ (i : DataItem). i.packet.moment) items in
+    let later : AreLate least (map (λ (i : DataItem). i.packet.moment) (items ++ item ∷ [])) =
+    subst (AreLate least) (sym (map-append (λ (i : DataItem). i.packet.moment) items (item ∷ [])))
     (late_push least latest item.packet.moment moments are.late
-    (All-map (λ (m : ℕ). m ≤ latest) (λ (i : FlowItem). i.packet.moment) items late) start
+    (All-map (λ (m : ℕ). m ≤ latest) (λ (i : DataItem). i.packet.moment) items late) start
     (omega (arith, moment, at))) in
     let all : All (MayStand (commands_met (start_of end)) (commands_sent end)) (items ++ item ∷ []) =
     All-push (MayStand (commands_met (start_of end)) (commands_sent end)) items item are.standing stands in
@@ -538,17 +538,17 @@ accepted_more line latest parked packet end after items item accepts made stands
           (ap (λ s. commands_met s.value) (sym accepts.same.started))
           (subst (λ cs. All (MayStand (commands_met (start_of end)) cs) (items ++ item ∷ []))
           (sym accepts.commands.0) all);
-      late = subst (λ n. AreLate (unwrap_or n 0) (map (λ (i : FlowItem). i.packet.moment) (items ++ item ∷ [])))
+      late = subst (λ n. AreLate (unwrap_or n 0) (map (λ (i : DataItem). i.packet.moment) (items ++ item ∷ [])))
           (ap (λ s. last_of s.value) (sym accepts.same.started)) later;
     }
 
-split_accepts : (slot lines latest line : ℕ) (parked : Bool) (packet : Packet) (end after : FrontEnd) (item : FlowItem)
+split_accepts : (slot lines latest line : ℕ) (parked : Bool) (packet : Packet) (end after : FrontEnd) (item : DataItem)
     (old new : View) → EndAccepts end after → IsItemOf end line parked packet item
     → MayStand (commands_met end.started.value) (commands_sent end) item
-    → latest ≤ packet.moment → new.control ≡ old.control → new.flow ≡ old.flow
+    → latest ≤ packet.moment → new.control ≡ old.control → new.data_half ≡ old.data_half
     → new.accepted ≡ old.accepted ++ item ∷ [] → SplitKeeps slot lines latest end old
     → SplitKeeps slot (lines + 1) packet.moment after new
-split_accepts slot lines latest line parked packet end after item old new accepts made stands moment control flow more
+split_accepts slot lines latest line parked packet end after item old new accepts made stands moment control data_half more
     keeps =
     let sent = ap length accepts.commands.0 in
     let many = ap length more ∙ length-append old.accepted (item ∷ []) in
@@ -560,16 +560,16 @@ split_accepts slot lines latest line parked packet end after item old new accept
     record {
       own = accepts.same.slot ∙ keeps.own;
       control_admitted = ap is_some control ∙ keeps.control_admitted;
-      flow_admitted = ap is_some flow ∙ keeps.flow_admitted;
+      data_admitted = ap is_some data_half ∙ keeps.data_admitted;
       names = λ half counter here there.
           one_same end after half counter accepts.same
-          (keeps.names half counter (sym control ∙ here) (sym flow ∙ there));
+          (keeps.names half counter (sym control ∙ here) (sym data_half ∙ there));
       accepted = subst (AreAccepted after) (sym more)
           (accepted_more line latest parked packet end after old.accepted item accepts made stands keeps.late
           keeps.late_start moment keeps.accepted);
-      late = subst (All (λ (i : FlowItem). i.packet.moment ≤ packet.moment)) (sym more)
-          (All-push (λ (i : FlowItem). i.packet.moment ≤ packet.moment) old.accepted item
-          (All-weaker (λ (i : FlowItem). i.packet.moment ≤ latest) (λ (i : FlowItem). i.packet.moment ≤ packet.moment)
+      late = subst (All (λ (i : DataItem). i.packet.moment ≤ packet.moment)) (sym more)
+          (All-push (λ (i : DataItem). i.packet.moment ≤ packet.moment) old.accepted item
+          (All-weaker (λ (i : DataItem). i.packet.moment ≤ latest) (λ (i : DataItem). i.packet.moment ≤ packet.moment)
           (λ i here. omega (arith, here, moment)) old.accepted keeps.late) (omega (arith, at)));
       late_start = subst (λ n. unwrap_or n 0 ≤ packet.moment) (ap (λ s. last_of s.value) (sym accepts.same.started))
           (omega (arith, start, moment));
@@ -594,7 +594,7 @@ halves_receive slices room lane slots lines latest asks slot line packet parked 
     does.sides low (omega (arith, lots, lots_few)) (omega arith) moment keeps
     (view_split slot (lines + 1) packet.moment does.after (view_at new slot) does.is
     (split_accepts slot lines latest line parked packet does.end does.after does.item (view_at old slot)
-    (view_at new slot) does.accepts does.made does.stands moment does.control does.flow does.accepted
+    (view_at new slot) does.accepts does.made does.stands moment does.control does.data_half does.accepted
     (split_keeps slot lines latest does.end (view_at old slot) does.was (keeps.views slot))))
     (rooms_one room (view_at new slot).lot does.after does.is rooms)
     (omega (arith, control, control_few)) (omega (arith, asked, asked_few))

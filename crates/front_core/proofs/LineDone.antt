@@ -6,9 +6,9 @@ use Rattle.demux.specs.declared.meant.Meant.{Meant}
 use Rattle.subscriber.specs.Standing.{SubscriberState}
 use Rattle.at_rest.specs.Meant.{Turned}
 use Rattle.at_rest.specs.Rest.{Rest}
-use Rattle.front_halves.specs.declared.halves.Halves.{Halves}
-use Rattle.front_halves.specs.Steps.{Settles}
-use Rattle.front_core.specs.declared.taken.Open.{Open}
+use Rattle.front_core.specs.declared.halves.Halves.{Halves}
+use Rattle.front_core.specs.Steps.{Settles}
+use Rattle.front_core.specs.declared.taken.OpenEntry.{OpenEntry}
 use Rattle.front_core.specs.declared.taken.Taken.{Taken}
 use Rattle.front_core.specs.Entries.{lines_of}
 use Rattle.front_core.specs.Keeping.{FrontKeeps}
@@ -16,7 +16,7 @@ use Rattle.front_core.specs.Taking.{Takes}
 use Rattle.front_core.proofs.Fronts.{line_keeps, lines_push}
 
 -- the subscribers as they were lent, and as they came back
-pub takes_as : (n tries : ℕ) (it : Meant) (open_ : Open) (turned lent after now : List SubscriberState) (old new : Halves)
+pub takes_as : (n tries : ℕ) (it : Meant) (open_ : OpenEntry) (turned lent after now : List SubscriberState) (old new : Halves)
     → lent ≡ turned → now ≡ after → Takes n tries (meaning_of it) open_ lent after old new
     → Takes n tries (meaning_of it) open_ turned now old new
 takes_as n tries it open_ turned lent after now old new lent_is now_is takes =

@@ -5,11 +5,11 @@ use Rattle.lawful_run.specs.LinesTold.{LineTold, lines_told}
 use Rattle.lawful_run.specs.Trace.{meant_from}
 use Rattle.subscriber.specs.Standing.{SubscriberState}
 use Rattle.at_rest.specs.Rest.{Rest}
-use Rattle.lines_kept.specs.Kept.{Ends, Load, LoadTold, OwnTold, Part, PartTold}
-use Rattle.lines_kept.specs.Lines.{Eases}
-use Rattle.front_halves.specs.declared.halves.Halves.{Halves}
-use Rattle.front_halves.specs.Steps.{Settles}
-use Rattle.front_halves.specs.Views.{parts_of, view_at}
+use Rattle.front_core.specs.Kept.{Ends, Load, LoadTold, OwnTold, Part, PartTold}
+use Rattle.front_core.specs.Lines.{Eases}
+use Rattle.front_core.specs.declared.halves.Halves.{Halves}
+use Rattle.front_core.specs.Steps.{Settles}
+use Rattle.front_core.specs.Views.{parts_of, view_at}
 use Rattle.front_core.specs.declared.taken.Taken.{Taken}
 use Rattle.front_core.specs.Entries.{lines_of, opens_of}
 use Rattle.front_core.specs.Keeping.{AreStarts, FrontKeeps}

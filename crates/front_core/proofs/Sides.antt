@@ -2,10 +2,10 @@
 use Rattle.std.proofs.Common.{ℕ, List, inl, inr}
 use Rattle.demux.specs.Trace.{Meaning, command, packet, move, note}
 use Rattle.subscriber.specs.Standing.{SubscriberState}
-use Rattle.front_halves.specs.declared.halves.Halves.{Halves}
-use Rattle.front_halves.specs.Steps.{IsReady, SidesKeep}
-use Rattle.front_halves.proofs.Settling.{sides_then}
-use Rattle.front_core.specs.declared.taken.Open.{Open}
+use Rattle.front_core.specs.declared.halves.Halves.{Halves}
+use Rattle.front_core.specs.Steps.{IsReady, SidesKeep}
+use Rattle.front_core.proofs.Settling.{sides_then}
+use Rattle.front_core.specs.declared.taken.OpenEntry.{OpenEntry}
 use Rattle.front_core.specs.Taking.{Takes}
 
 ready_sides : (slot : ℕ) (was is : SubscriberState) (old new : Halves) → IsReady slot was is old new
@@ -13,7 +13,7 @@ ready_sides : (slot : ℕ) (was is : SubscriberState) (old new : Halves) → IsR
 ready_sides slot was is old new (inl split) = split.settles.sides
 ready_sides slot was is old new (inr admits) = admits.sides
 
-pub takes_sides : (n tries : ℕ) (now : Meaning) (open_ : Open) (subs after : List SubscriberState) (old new : Halves)
+pub takes_sides : (n tries : ℕ) (now : Meaning) (open_ : OpenEntry) (subs after : List SubscriberState) (old new : Halves)
     → Takes n tries now open_ subs after old new → SidesKeep old new
 takes_sides n tries (command slot c) open_ subs after old new takes =
     let first = ready_sides slot takes.ready.was takes.ready.is old takes.mid takes.ready.ready in

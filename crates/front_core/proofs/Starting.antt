@@ -9,14 +9,14 @@ use Rattle.subscriber.specs.Standing.{SubscriberState, Represents, last_of}
 use Rattle.at_rest.specs.Meant.{Stand}
 use Rattle.at_rest.specs.Rest.{AreAtRest, IsAtRest, NewOneIsAtRest, destination_or}
 use Rattle.at_rest.proofs.Places.{all_set}
-use Rattle.demux.specs.Destinations.{home_slice}
+use Rattle.demux.specs.Destinations.{start_slice}
 use Rattle.split_record.specs.declared.front.FrontEnd.{FrontEnd}
-use Rattle.front_halves.specs.declared.lot.Lot.{Lot}
-use Rattle.front_halves.specs.declared.lot.Lot.TheVariants.{Moved, Split}
-use Rattle.front_halves.specs.declared.halves.Halves.{Halves}
-use Rattle.front_halves.specs.Lots.{LotMoves, LotSettles, end_of}
-use Rattle.front_halves.specs.Steps.{Commanded, OthersSettle, Received, Settles, SlotMoves}
-use Rattle.front_halves.specs.Views.{view_at}
+use Rattle.front_core.specs.declared.lot.Lot.{Lot}
+use Rattle.front_core.specs.declared.lot.Lot.TheVariants.{Moved, Split}
+use Rattle.front_core.specs.declared.halves.Halves.{Halves}
+use Rattle.front_core.specs.Lots.{LotMoves, LotSettles, end_of}
+use Rattle.front_core.specs.Steps.{Commanded, OthersSettle, Received, Settles, SlotMoves}
+use Rattle.front_core.specs.Views.{view_at}
 use Rattle.front_core.specs.Keeping.{AreStarts, start_in, starts_of, unless_split}
 
 -- what stays as it was of each step
@@ -149,5 +149,5 @@ pub stand_admit : (slices : ℕ) (book : List (List ℕ)) (subscribers : List Su
     → Stand slices book (set subscribers slot is) prior
 stand_admit slices book subscribers slot was is prior found bound stand = record {
   book_is = stand.book_is;
-  bounds = λ k. bound_same subscribers slot k (home_slice slices k) was is found bound ∙ stand.bounds k;
+  bounds = λ k. bound_same subscribers slot k (start_slice slices k) was is found bound ∙ stand.bounds k;
 }

@@ -7,12 +7,12 @@ use Rattle.demux.specs.Trace.{Meaning}
 use Rattle.demux.specs.declared.packet.LentPacket.{LentPacket}
 use Rattle.subscriber.specs.Standing.{SubscriberState}
 use Rattle.at_rest.specs.Rest.{RestLeavesRoom}
-use Rattle.front_halves.specs.declared.halves.Halves.{Halves}
-use Rattle.front_halves.specs.declared.tried.Given.TheVariants as given
-use Rattle.front_halves.specs.Steps.{IsReady, MayAdmit, MayGive, MayMove, Received}
-use Rattle.front_halves.specs.Tries.{GivesCommand, GivesPacket}
-use Rattle.front_halves.proofs.Settling.{settles_none}
-use Rattle.front_core.specs.declared.taken.Open.TheVariants as entry
+use Rattle.front_core.specs.declared.halves.Halves.{Halves}
+use Rattle.front_core.specs.declared.tried.Given.TheVariants as given
+use Rattle.front_core.specs.Steps.{IsReady, MayAdmit, MayGive, MayMove, Received}
+use Rattle.front_core.specs.Tries.{GivesCommand, GivesPacket}
+use Rattle.front_core.proofs.Settling.{settles_none}
+use Rattle.front_core.specs.declared.taken.OpenEntry.TheVariants as entry
 use Rattle.front_core.specs.Taking.{GrowsTo, MakesReady, MayTake, TakesCommand, TakesPacket}
 use Rattle.front_core.proofs.Allowing.{may_admit, may_give, may_move}
 use Rattle.front_core.proofs.Bridging.{prepared}

@@ -1,6 +1,6 @@
 -- How the count of full answers rises with a line.
 use Rattle.std.specs.Prelude.{◌≡◌, ℕ, ◌<◌}
-use Rattle.front_halves.specs.Tries.{RisesBy}
+use Rattle.front_core.specs.Tries.{RisesBy}
 use Rattle.front_core.specs.declared.took.Took.{Took}
 use Rattle.front_core.specs.declared.took.Took.TheVariants as answer
 

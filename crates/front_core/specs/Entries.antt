@@ -4,15 +4,15 @@ use Rattle.std.specs.Prelude.{Option, Some, None}
 use Rattle.trace_lines.specs.Line.{Line}
 use Rattle.report_lines.specs.declared.entry.LineEntry.{LineEntry}
 use Rattle.report_lines.specs.declared.entry.LineEntry.TheVariants as line
-use Rattle.epoch_join.specs.Opened.{open_command, open_packet}
-use Rattle.lines_kept.specs.Lines.{noted}
-use Rattle.front_core.specs.declared.taken.Open.{Open}
-use Rattle.front_core.specs.declared.taken.Open.TheVariants as entry
+use Rattle.lawful_run.specs.Opened.{open_command, open_packet}
+use Rattle.front_core.specs.Lines.{noted}
+use Rattle.front_core.specs.declared.taken.OpenEntry.{OpenEntry}
+use Rattle.front_core.specs.declared.taken.OpenEntry.TheVariants as entry
 use Rattle.front_core.specs.declared.taken.Taken.{Taken}
 use Rattle.front_core.specs.declared.took.Took.{Took}
 use Rattle.front_core.specs.declared.took.Took.TheVariants as answer
 
-abbrev pub open_of : ℕ → Open → LineEntry
+abbrev pub open_of : ℕ → OpenEntry → LineEntry
 open_of n (entry.Note text) = noted n text
 open_of n (entry.Command slot) = open_command n slot true
 open_of n (entry.Packet slot parked) = open_packet n slot true parked
@@ -27,14 +27,14 @@ abbrev pub lines_of : List Taken → List Line
 lines_of entries = map (λ (taken : Taken). taken.line.value) entries
 
 -- what is answered where an entry was left open so
-abbrev pub took_of : Open → Took
+abbrev pub took_of : OpenEntry → Took
 took_of (entry.Note text) = answer.Answered
 took_of (entry.Command slot) = answer.Accepted false
 took_of (entry.Packet slot parked) = answer.Accepted parked
 took_of (entry.Full slot packet) = answer.Full
 
 -- the slot of a command that was accepted
-abbrev pub commanded_by : Open → Option ℕ
+abbrev pub commanded_by : OpenEntry → Option ℕ
 commanded_by (entry.Note text) = None
 commanded_by (entry.Command slot) = Some slot
 commanded_by (entry.Packet slot parked) = None

@@ -9,30 +9,30 @@ use Rattle.at_rest.specs.Rest.{Rest, AreAtRest}
 use Rattle.at_rest.specs.Meant.{AreStanding, Stand}
 use Rattle.worker_core.specs.Desks.{lanes_of}
 use Rattle.control_half.specs.Named as control_named
-use Rattle.counter_half.specs.Named as flow_named
-use Rattle.counter_half.specs.declared.items.FlowItem.{FlowItem}
+use Rattle.counter_half.specs.Named as data_named
+use Rattle.counter_half.specs.declared.items.DataItem.{DataItem}
 use Rattle.split_record.specs.declared.front.FrontEnd.{FrontEnd}
 use Rattle.split_record.specs.Rejoined.{AreAccepted, commands_sent, start_of}
-use Rattle.lines_kept.specs.Kept.{LinesKept}
-use Rattle.front_halves.specs.declared.lot.Lot.{Lot}
-use Rattle.front_halves.specs.declared.lot.Lot.TheVariants.{Moved, Split}
-use Rattle.front_halves.specs.declared.halves.Halves.{Halves}
+use Rattle.front_core.specs.Kept.{LinesKept}
+use Rattle.front_core.specs.declared.lot.Lot.{Lot}
+use Rattle.front_core.specs.declared.lot.Lot.TheVariants.{Moved, Split}
+use Rattle.front_core.specs.declared.halves.Halves.{Halves}
 use Rattle.front_core.specs.declared.taken.Taken.{Taken}
 use Rattle.front_core.specs.Entries.{opens_of, lines_of}
-use Rattle.front_halves.specs.Steps.{AreOneSplit}
+use Rattle.front_core.specs.Steps.{AreOneSplit}
 use Rattle.lane_core.specs.Ends.{sender_lane}
-use Rattle.front_halves.specs.Views.{both, View, view_at, parts_of, load_of, lane_rooms}
+use Rattle.front_core.specs.Views.{both, View, view_at, parts_of, load_of, lane_rooms}
 
 -- Of a split subscriber, behind so many lines, the last at this moment: its halves are those that are admitted, what
 -- was accepted is what its front end counted, and that is few.
 pub record SplitKeeps (slot lines latest : ℕ) (end : FrontEnd) (view : View) : Type 0 where
   pub own : end.slot ≡ slot
   pub control_admitted : is_some view.control ≡ true
-  pub flow_admitted : is_some view.flow ≡ true
-  pub names : (half : control_named.Named) (counter : flow_named.Named) → view.control ≡ Some half
-      → view.flow ≡ Some counter → AreOneSplit end half counter
+  pub data_admitted : is_some view.data_half ≡ true
+  pub names : (half : control_named.Named) (counter : data_named.Named) → view.control ≡ Some half
+      → view.data_half ≡ Some counter → AreOneSplit end half counter
   pub accepted : AreAccepted end view.accepted
-  pub late : All (λ (i : FlowItem). i.packet.moment ≤ latest) view.accepted
+  pub late : All (λ (i : DataItem). i.packet.moment ≤ latest) view.accepted
   pub late_start : unwrap_or (last_of (start_of end)) 0 ≤ latest
   pub few : length (commands_sent end) + length view.accepted ≤ lines
   pub hops_few : end.hop ≤ lines
@@ -40,7 +40,7 @@ pub record SplitKeeps (slot lines latest : ℕ) (end : FrontEnd) (view : View) :
 -- of one that isn't
 pub record RestsHere (view : View) : Type 0 where
   pub no_control : view.control ≡ None
-  pub no_flow : view.flow ≡ None
+  pub no_data : view.data_half ≡ None
   pub no_parks : view.parks ≡ false
 
 abbrev pub LotKeeps : ℕ → ℕ → ℕ → Option Lot → View → Type 0

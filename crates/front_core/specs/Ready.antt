@@ -1,11 +1,11 @@
 -- A slot whose subscriber is split, behind a pump and what else settles.
 use Rattle.std.specs.Prelude.{◌≡◌, ℕ, ◌+◌, ◌≤◌, true, Some}
 use Rattle.split_record.specs.declared.front.FrontEnd.{FrontEnd}
-use Rattle.lines_kept.specs.Lines.{IsAdmitted, MayPark, newly}
-use Rattle.front_halves.specs.declared.lot.Lot.TheVariants.{Split}
-use Rattle.front_halves.specs.declared.halves.Halves.{Halves}
-use Rattle.front_halves.specs.Steps.{OthersSettle, SidesKeep}
-use Rattle.front_halves.specs.Views.{both, view_at, part_of, ends_of, load_of}
+use Rattle.front_core.specs.Lines.{IsAdmitted, MayPark, newly}
+use Rattle.front_core.specs.declared.lot.Lot.TheVariants.{Split}
+use Rattle.front_core.specs.declared.halves.Halves.{Halves}
+use Rattle.front_core.specs.Steps.{OthersSettle, SidesKeep}
+use Rattle.front_core.specs.Views.{both, view_at, part_of, ends_of, load_of}
 
 pub record Prepared (slot : ℕ) (old new : Halves) : Type 0 where
   pub others : OthersSettle slot old new

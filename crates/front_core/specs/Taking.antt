@@ -6,11 +6,11 @@ use Rattle.demux.specs.Trace.{Meaning, command, packet, move, note}
 use Rattle.demux.specs.declared.packet.LentPacket.{LentPacket}
 use Rattle.subscriber.specs.Standing.{SubscriberState}
 use Rattle.at_rest.specs.Rest.{AreAtRest}
-use Rattle.front_halves.specs.declared.halves.Halves.{Halves}
-use Rattle.front_halves.specs.Steps.{Settles, SlotMoves, IsReady, Commanded, CommandsFull, Received, PacketsFull}
-use Rattle.front_halves.specs.Tries.{RisesBy, TriedOften, lane_fulls, packets_refused}
-use Rattle.front_core.specs.declared.taken.Open.{Open}
-use Rattle.front_core.specs.declared.taken.Open.TheVariants as entry
+use Rattle.front_core.specs.declared.halves.Halves.{Halves}
+use Rattle.front_core.specs.Steps.{Settles, SlotMoves, IsReady, Commanded, CommandsFull, Received, PacketsFull}
+use Rattle.front_core.specs.Tries.{RisesBy, TriedOften, lane_fulls, packets_refused}
+use Rattle.front_core.specs.declared.taken.OpenEntry.{OpenEntry}
+use Rattle.front_core.specs.declared.taken.OpenEntry.TheVariants as entry
 use Rattle.front_core.specs.declared.took.Took.{Took}
 use Rattle.front_core.specs.declared.took.Took.TheVariants as answer
 use Rattle.front_core.specs.Keeping.{HalvesKeep}
@@ -51,28 +51,28 @@ pub record MakesReady (slot : ℕ) (old new : List SubscriberState) (halves now 
   pub fulls : now.fulls ≡ halves.fulls
 
 -- a command was sent, behind tries that were refused; or each of them was, as the count of its lane tells
-pub record Accepts (slot line : ℕ) (c : CommandKind) (open_ : Open) (old new : Halves) : Type 0 where
+pub record Accepts (slot line : ℕ) (c : CommandKind) (open_ : OpenEntry) (old new : Halves) : Type 0 where
   pub is : open_ ≡ entry.Command slot
   pub mid : Halves
   pub settles : Settles old mid
   pub sent : Commanded slot line c mid new
 
-pub record Refuses (slot tries : ℕ) (open_ : Open) (old new : Halves) : Type 0 where
+pub record Refuses (slot tries : ℕ) (open_ : OpenEntry) (old new : Halves) : Type 0 where
   pub is : open_ ≡ entry.Full slot false
   pub settles : Settles old new
   pub full : CommandsFull slot new
   pub rises : RisesBy tries old.fulls new.fulls
   pub lane_rises : RisesBy tries (lane_fulls slot old) (lane_fulls slot new)
 
-pub record TakesCommand (slot line tries : ℕ) (c : CommandKind) (open_ : Open) (subs now : List SubscriberState)
+pub record TakesCommand (slot line tries : ℕ) (c : CommandKind) (open_ : OpenEntry) (subs now : List SubscriberState)
     (old new : Halves) : Type 0 where
   pub mid : Halves
   pub ready : MakesReady slot subs now old mid
   pub came : Accepts slot line c open_ mid new ⊎ Refuses slot tries open_ mid new
 
--- the same of a packet, by the count of the side of counter halves; behind each refusal but the last both sides were
+-- the same of a packet, by the count of the side of data halves; behind each refusal but the last both sides were
 -- pumped
-pub record AcceptsPacket (slot line tries : ℕ) (p : LentPacket) (open_ : Open) (old new : Halves) : Type 0 where
+pub record AcceptsPacket (slot line tries : ℕ) (p : LentPacket) (open_ : OpenEntry) (old new : Halves) : Type 0 where
   pub parked : Bool
   pub is : open_ ≡ entry.Packet slot parked
   pub mid : Halves
@@ -82,7 +82,7 @@ pub record AcceptsPacket (slot line tries : ℕ) (p : LentPacket) (open_ : Open)
   pub fewer : before < tries
   pub often : TriedOften slot before old mid
 
-pub record RefusesPacket (slot tries : ℕ) (open_ : Open) (old new : Halves) : Type 0 where
+pub record RefusesPacket (slot tries : ℕ) (open_ : OpenEntry) (old new : Halves) : Type 0 where
   pub is : open_ ≡ entry.Full slot true
   pub settles : Settles old new
   pub full : PacketsFull slot old new
@@ -95,14 +95,14 @@ pub record RefusesPacket (slot tries : ℕ) (open_ : Open) (old new : Halves) : 
   pub still : Settles last new
   pub full_last : PacketsFull slot last new
 
-pub record TakesPacket (slot line tries : ℕ) (p : LentPacket) (open_ : Open) (subs now : List SubscriberState)
+pub record TakesPacket (slot line tries : ℕ) (p : LentPacket) (open_ : OpenEntry) (subs now : List SubscriberState)
     (old new : Halves) : Type 0 where
   pub mid : Halves
   pub ready : MakesReady slot subs now old mid
   pub came : AcceptsPacket slot line tries p open_ mid new ⊎ RefusesPacket slot tries open_ mid new
 
 -- a slot moves to a slice
-pub record TakesMove (slot slice : ℕ) (text : List ℕ) (open_ : Open) (subs now : List SubscriberState)
+pub record TakesMove (slot slice : ℕ) (text : List ℕ) (open_ : OpenEntry) (subs now : List SubscriberState)
     (old new : Halves) : Type 0 where
   pub is : open_ ≡ entry.Note text
   pub same : now ≡ subs
@@ -110,13 +110,14 @@ pub record TakesMove (slot slice : ℕ) (text : List ℕ) (open_ : Open) (subs n
   pub lots : GrowsTo slot old new
 
 -- a note changes nothing
-pub record TakesNote (text : List ℕ) (open_ : Open) (subs now : List SubscriberState) (old new : Halves) : Type 0 where
+pub record TakesNote (text : List ℕ) (open_ : OpenEntry) (subs now : List SubscriberState)
+    (old new : Halves) : Type 0 where
   pub is : open_ ≡ entry.Note text
   pub same : now ≡ subs
   pub still : Settles old new
 
 -- what the line of this number does, with so many tries
-abbrev pub Takes : (line tries : ℕ) → Meaning → Open → (subs now : List SubscriberState) → Halves → Halves → Type 0
+abbrev pub Takes : (line tries : ℕ) → Meaning → OpenEntry → (subs now : List SubscriberState) → Halves → Halves → Type 0
 Takes line tries (command slot c) open_ subs now old new = TakesCommand slot line tries c open_ subs now old new
 Takes line tries (packet slot p) open_ subs now old new = TakesPacket slot line tries p open_ subs now old new
 Takes line tries (move slot slice text) open_ subs now old new = TakesMove slot slice text open_ subs now old new

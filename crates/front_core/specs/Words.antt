@@ -8,9 +8,9 @@ use Rattle.demux.specs.declared.meant.Meant.{Meant}
 use Rattle.subscriber.specs.Standing.{SubscriberState}
 use Rattle.at_rest.specs.Meant.{Turned}
 use Rattle.at_rest.specs.Rest.{Rest}
-use Rattle.front_halves.specs.declared.halves.Halves.{Halves}
-use Rattle.front_halves.specs.Steps.{Pumps}
-use Rattle.front_halves.specs.Views.{both}
+use Rattle.front_core.specs.declared.halves.Halves.{Halves}
+use Rattle.front_core.specs.Steps.{Pumps}
+use Rattle.front_core.specs.Views.{both}
 use Rattle.front_core.specs.declared.front.Front.{Front}
 use Rattle.front_core.specs.declared.taken.Taken.{Taken}
 use Rattle.front_core.specs.declared.took.Took.{Took}
@@ -51,8 +51,8 @@ moving_in front = front.halves.sides.moving.items
 abbrev pub control_lanes : Front → List Lanes
 control_lanes front = lanes_of (both front.halves).control_desks
 
-abbrev pub flow_lanes : Front → List Lanes
-flow_lanes front = lanes_of (both front.halves).desks
+abbrev pub data_lanes : Front → List Lanes
+data_lanes front = lanes_of (both front.halves).desks
 
 -- the numbers of so many slices
 abbrev pub first_slices : ℕ → List ℕ

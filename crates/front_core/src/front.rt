@@ -1,22 +1,20 @@
 //! The front of an epoch.
 ghost use Rattle.std.specs.Prelude.{◌≡◌, ◌<◌, ◌≤◌, ◌+◌, ◌++◌, ◌∷◌, [], ◌^◌, map, length, OnOk, OnErr, IfOk, IfSome};
 
-use crate::opening::{Opened, controls_of, flows_of};
-use crate::taken::{Open, Taken};
+use crate::opening::{Opened, controls_of, datas_of};
+use crate::taken::{OpenEntry, Taken};
 use crate::taking::take;
-use crate::{NoMemory, Took};
+use crate::{BothSides, Halves, NoMemory, Took};
 use address_book::AddressBook;
 use at_rest::{AtRest, decide_line};
-use flow_migration::FlowSide;
-use front_halves::Halves;
-use front_sides::BothSides;
-use migration::Side;
+use migration::{DataSide, Side};
 use pc_base::{SliceNo, Slot};
 use std::alloc::Global;
 use std::snapshot::Snapshot;
 use std::sync::Wait;
 use subscriber::Subscriber;
 use trace_lines::TraceLine;
+use worker_core::Post;
 
 /// The front of an epoch: what it was opened with, and what came since.
 #[derive(Drop)]
@@ -58,14 +56,14 @@ impl Front {
     ghost use Rattle.lawful_run.specs.Trace.{meant_next};
     ghost use Rattle.at_rest.specs.Rest.{IsBehind, RepresentsAll};
     ghost use Rattle.worker_core.specs.Workers.{place_of, worker_lanes};
-    ghost use Rattle.flow_core.specs.Workers as flow_worker;
+    ghost use Rattle.worker_core.specs.DataWorkers as data_worker;
     ghost use Rattle.front_core.specs.Counting.{TookTries};
     ghost use Rattle.front_core.specs.Keeping.{FrontKeeps};
     ghost use Rattle.front_core.specs.Words.{IsWhole, opened_of, entries_in, taken_by, lines_in, latest_in, fulls_in};
-    ghost use Rattle.front_core.specs.Words.{control_lanes, flow_lanes, moving_in, first_slices, PumpsFront, TakesLine};
+    ghost use Rattle.front_core.specs.Words.{control_lanes, data_lanes, moving_in, first_slices, PumpsFront, TakesLine};
     ghost use Rattle.front_core.specs.Entries.{IsLastCommand};
     ghost use Rattle.front_core.specs.Taking.{MayBecome};
-    ghost use Rattle.front_halves.specs.Views.{both};
+    ghost use Rattle.front_core.specs.Views.{both};
     ghost use Rattle.worker_core.specs.Desks.{lanes_of};
 
     /// Opens an epoch: the gateway at rest is taken apart, and each slice gets its workers. Out of
@@ -81,9 +79,9 @@ impl Front {
 
         // The workers are those of the desks, in the order of slices, and each is of its slice.
         ensures controls { IfOk result (λ made. control_lanes made.front ≡ map worker_lanes made.controls.items) }
-        ensures flows { IfOk result (λ made. flow_lanes made.front ≡ map flow_worker.worker_lanes made.flows.items) }
+        ensures datas { IfOk result (λ made. data_lanes made.front ≡ map data_worker.worker_lanes made.datas.items) }
         ensures places { IfOk result (λ made. (map place_of made.controls.items ≡ first_slices rest.slices)
-            × (map flow_worker.place_of made.flows.items ≡ first_slices rest.slices)) }
+            × (map data_worker.place_of made.datas.items ≡ first_slices rest.slices)) }
     {
         let opened = Snapshot::of(&rest);
         let AtRest {
@@ -97,7 +95,7 @@ impl Front {
             fulls,
         } = rest;
         let controls = controls_of(alloc, slices)?;
-        let flows = flows_of(alloc, slices, lane)?;
+        let datas = datas_of(alloc, slices, lane)?;
         let front = Front {
             alloc,
             opened,
@@ -112,7 +110,7 @@ impl Front {
                 sides: BothSides::new(
                     alloc,
                     Side::new(alloc, controls.desks),
-                    FlowSide::new(alloc, flows.desks, room),
+                    DataSide::new(alloc, datas.desks, room),
                 ),
                 fulls,
             },
@@ -123,7 +121,7 @@ impl Front {
         Ok(Opened {
             front,
             controls: controls.workers,
-            flows: flows.workers,
+            datas: datas.workers,
         })
     }
 
@@ -135,19 +133,21 @@ impl Front {
         ensures counts { (lines_in self.new ≡ lines_in self.old) × (latest_in self.new ≡ latest_in self.old)
             × (fulls_in self.new ≡ fulls_in self.old) }
         ensures lanes { (control_lanes self.new ≡ control_lanes self.old)
-            × (flow_lanes self.new ≡ flow_lanes self.old) }
+            × (data_lanes self.new ≡ data_lanes self.old) }
     {
         self.halves.pump(rt);
     }
 
     /// Takes a line. What it means is decided behind a pump. A command's or packet's subscriber is split, if it
     /// isn't in this epoch; one that finds its queue or lane full is tried again so many times, a packet behind
-    /// a pump. Out of memory the line isn't taken, and the front may only be dropped.
+    /// a pump, and the threads of these posts are woken first. Out of memory the line isn't taken, and the front may
+    /// only be dropped.
     pub fn line<R: Wait>(
         &mut self,
         rt: &R,
         line: &TraceLine,
         patience: u32,
+        posts: &[Post],
     ) -> Result<Took, NoMemory>
         requires whole { IsWhole self.old }
         requires few { lines_in self.old < 2 ^ 39 }
@@ -159,7 +159,7 @@ impl Front {
         ensures counts { OnOk result ((lines_in self.new ≡ lines_in self.old + 1)
             × (latest_in self.new ≡ line.now.moment)) }
         ensures lanes { OnOk result ((control_lanes self.new ≡ control_lanes self.old)
-            × (flow_lanes self.new ≡ flow_lanes self.old)) }
+            × (data_lanes self.new ≡ data_lanes self.old)) }
 
         // What became of it: as its entry says, which is what the line means behind those before it.
         ensures takes { IfOk result (λ took. TakesLine line.now (patience + 1) took self.old self.new) }
@@ -191,6 +191,7 @@ impl Front {
             self.subscribers.as_mut_slice(),
             &mut self.halves,
             patience,
+            posts,
         )?;
         let took = open.took();
         self.entries.push_reserved(Taken {
@@ -210,7 +211,7 @@ impl Front {
         ensures counts { (lines_in self.new ≡ lines_in self.old) × (latest_in self.new ≡ latest_in self.old)
             × (fulls_in self.new ≡ fulls_in self.old) }
         ensures lanes { (control_lanes self.new ≡ control_lanes self.old)
-            × (flow_lanes self.new ≡ flow_lanes self.old) }
+            × (data_lanes self.new ≡ data_lanes self.old) }
     {
         self.entries.reserve(lines)
     }
@@ -262,7 +263,7 @@ impl Front {
         ensures counts { (result.lines ≡ lines_in self) × (result.latest ≡ latest_in self)
             × (result.halves.fulls ≡ fulls_in self) }
         ensures lanes { (lanes_of (both result.halves).control_desks ≡ control_lanes self)
-            × (lanes_of (both result.halves).desks ≡ flow_lanes self) }
+            × (lanes_of (both result.halves).desks ≡ data_lanes self) }
     {
         let Front {
             alloc,

@@ -2,23 +2,22 @@
 ghost use Rattle.std.specs.Prelude.{◌≡◌, ◌≤◌, All, IfOk, length, map, replicate};
 ghost use Rattle.worker_core.specs.Desks.{lanes_of};
 ghost use Rattle.worker_core.specs.Workers.{IsNewDesk, Lanes, place_of, worker_lanes};
-ghost use Rattle.flow_core.specs.Workers as flow_worker;
+ghost use Rattle.worker_core.specs.DataWorkers as data_worker;
 ghost use Rattle.front_core.specs.Words.{first_slices};
 
 use crate::{Front, NoMemory};
 use control_half::ControlHalf;
-use counter_half::FlowHalf;
-use flow_core::{FlowDesk, FlowWorker, flow_pair};
+use counter_half::DataHalf;
 use pc_base::SliceNo;
 use std::alloc::Global;
-use worker_core::{Desk, Worker, pair};
+use worker_core::{DataDesk, DataWorker, Desk, Worker, data_pair, pair};
 
-/// A front, and for each slice in order the worker of its control halves and that of its counter halves.
+/// A front, and for each slice in order the worker of its control halves and that of its data halves.
 #[derive(Drop)]
 pub struct Opened {
     pub front: Front,
     pub controls: Vec<Worker<ControlHalf>>,
-    pub flows: Vec<FlowWorker<FlowHalf>>,
+    pub datas: Vec<DataWorker<DataHalf>>,
 }
 
 /// The desks of workers, and these.
@@ -29,9 +28,9 @@ pub(crate) struct Controls {
 }
 
 #[derive(Drop)]
-pub(crate) struct Flows {
-    pub(crate) desks: Vec<FlowDesk<FlowHalf>>,
-    pub(crate) workers: Vec<FlowWorker<FlowHalf>>,
+pub(crate) struct Datas {
+    pub(crate) desks: Vec<DataDesk<DataHalf>>,
+    pub(crate) workers: Vec<DataWorker<DataHalf>>,
 }
 
 pub(crate) fn controls_of(alloc: Global, slices: u8) -> Result<Controls, NoMemory>
@@ -51,21 +50,21 @@ pub(crate) fn controls_of(alloc: Global, slices: u8) -> Result<Controls, NoMemor
     Ok(Controls { desks, workers })
 }
 
-pub(crate) fn flows_of(alloc: Global, slices: u8, lane: u32) -> Result<Flows, NoMemory>
+pub(crate) fn datas_of(alloc: Global, slices: u8, lane: u32) -> Result<Datas, NoMemory>
     requires few { slices ≤ 64 }
     requires lane { (1 ≤ lane) × (lane ≤ 16384) }
-    ensures lanes { IfOk result (λ made. lanes_of made.desks.items ≡ map flow_worker.worker_lanes made.workers.items) }
+    ensures lanes { IfOk result (λ made. lanes_of made.desks.items ≡ map data_worker.worker_lanes made.workers.items) }
     ensures rooms { IfOk result (λ made. map (λ (lanes : Lanes). lanes.0.room) (lanes_of made.desks.items)
         ≡ replicate slices lane) }
-    ensures places { IfOk result (λ made. map flow_worker.place_of made.workers.items ≡ first_slices slices) }
+    ensures places { IfOk result (λ made. map data_worker.place_of made.workers.items ≡ first_slices slices) }
     ensures new { IfOk result (λ made. All IsNewDesk made.desks.items) }
 {
     let mut desks = Vec::new(alloc);
     let mut workers = Vec::new(alloc);
     for i in 0..slices {
-        let (desk, worker) = flow_pair(alloc, SliceNo(i), lane)?;
+        let (desk, worker) = data_pair(alloc, SliceNo(i), lane)?;
         desks.push(desk)?;
         workers.push(worker)?;
     }
-    Ok(Flows { desks, workers })
+    Ok(Datas { desks, workers })
 }

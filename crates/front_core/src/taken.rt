@@ -9,23 +9,23 @@ use trace_lines::TraceLine;
 
 /// The entry of a line, left open for what becomes of its command or packet.
 #[derive(Drop)]
-pub enum Open {
+pub enum OpenEntry {
     Note(Octets),
     Command(Slot),
     Packet { slot: Slot, parked: bool },
     Full { slot: Slot, packet: bool },
 }
 
-impl Open {
+impl OpenEntry {
     /// What became of the line.
     pub(crate) fn took(&self) -> Took
         ensures { result ≡ took_of self.now }
     {
         match self {
-            Open::Note(_) => Took::Answered,
-            Open::Command(_) => Took::Accepted { parked: false },
-            Open::Packet { parked, .. } => Took::Accepted { parked: *parked },
-            Open::Full { .. } => Took::Full,
+            OpenEntry::Note(_) => Took::Answered,
+            OpenEntry::Command(_) => Took::Accepted { parked: false },
+            OpenEntry::Packet { parked, .. } => Took::Accepted { parked: *parked },
+            OpenEntry::Full { .. } => Took::Full,
         }
     }
 
@@ -34,10 +34,10 @@ impl Open {
         ensures { result ≡ commanded_by self.now }
     {
         match self {
-            Open::Command(slot) => Some(*slot),
-            Open::Note(_) => None,
-            Open::Packet { .. } => None,
-            Open::Full { .. } => None,
+            OpenEntry::Command(slot) => Some(*slot),
+            OpenEntry::Note(_) => None,
+            OpenEntry::Packet { .. } => None,
+            OpenEntry::Full { .. } => None,
         }
     }
 }
@@ -46,5 +46,5 @@ impl Open {
 #[derive(Drop)]
 pub struct Taken {
     pub line: Snapshot<TraceLine>,
-    pub open: Open,
+    pub open: OpenEntry,
 }

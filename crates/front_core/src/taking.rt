@@ -2,22 +2,22 @@
 ghost use Rattle.std.specs.Prelude.{◌≡◌, ◌≤◌, ◌+◌, ℕ, IfOk};
 ghost use Rattle.demux.specs.Trace.{command, packet};
 ghost use Rattle.demux.specs.Meant.{meaning_of};
-ghost use Rattle.front_halves.specs.Steps.{MayMove, SlotMoves};
+ghost use Rattle.front_core.specs.Steps.{MayMove, SlotMoves};
 ghost use Rattle.front_core.specs.Counting.{TookTries};
 ghost use Rattle.front_core.specs.Entries.{took_of};
 ghost use Rattle.front_core.specs.Taking.{GrowsTo, MayTake, Takes, TakesCommand, TakesPacket};
-ghost use Rattle.front_core.specs.declared.taken.Open.TheVariants.{Note};
+ghost use Rattle.front_core.specs.declared.taken.OpenEntry.TheVariants.{Note};
 
-use crate::NoMemory;
-use crate::taken::Open;
+use crate::taken::OpenEntry;
+use crate::{Given, Halves, NoMemory};
 use at_rest::rest_leaves_room;
 use control_half::BoxedCommand;
 use demux::{LentPacket, Meant};
-use front_halves::{Given, Halves};
 use pc_base::{Octets, SliceNo, Slot};
 use std::alloc::Global;
 use std::sync::Wait;
 use subscriber::Subscriber;
+use worker_core::Post;
 
 /// Does what a line of this number means: its open entry.
 pub(crate) fn take<R: Wait>(
@@ -28,7 +28,8 @@ pub(crate) fn take<R: Wait>(
     subscribers: &mut [Subscriber],
     halves: &mut Halves,
     patience: u32,
-) -> Result<Open, NoMemory>
+    posts: &[Post],
+) -> Result<OpenEntry, NoMemory>
     requires { MayTake (meaning_of meant) subscribers.old halves.old }
     ensures takes { IfOk result (λ open_. Takes line (patience + 1) (meaning_of meant.entry) open_ subscribers.old
         subscribers.new halves.old halves.new) }
@@ -37,11 +38,11 @@ pub(crate) fn take<R: Wait>(
     ensures rises { halves.old.fulls ≤ halves.new.fulls }
 {
     match meant {
-        Meant::Note(text) => Ok(Open::Note(text)),
+        Meant::Note(text) => Ok(OpenEntry::Note(text)),
         Meant::Move { slot, slice, text } => take_move(rt, slot, slice, text, halves),
         Meant::Command { slot, command } => {
             let asks = BoxedCommand::of(alloc, command)?;
-            take_command(rt, line, slot, asks, subscribers, halves, patience)
+            take_command(rt, line, slot, asks, subscribers, halves, patience, posts)
         }
         Meant::Packet { slot, packet } => {
             take_packet(
@@ -53,6 +54,7 @@ pub(crate) fn take<R: Wait>(
                 subscribers,
                 halves,
                 patience,
+                posts,
             )
         }
     }
@@ -64,7 +66,7 @@ fn take_move<R: Wait>(
     slice: SliceNo,
     text: Octets,
     halves: &mut Halves,
-) -> Result<Open, NoMemory>
+) -> Result<OpenEntry, NoMemory>
     requires may { MayMove slot slice halves.old }
     ensures takes { IfOk result (λ open_. (open_ ≡ Note text) × SlotMoves slot slice halves.old halves.new) }
     ensures lots { GrowsTo slot halves.old halves.new }
@@ -73,7 +75,7 @@ fn take_move<R: Wait>(
     ensures rises { halves.old.fulls ≤ halves.new.fulls }
 {
     halves.go(rt, slot, slice)?;
-    Ok(Open::Note(text))
+    Ok(OpenEntry::Note(text))
 }
 
 fn take_command<R: Wait>(
@@ -84,7 +86,8 @@ fn take_command<R: Wait>(
     subscribers: &mut [Subscriber],
     halves: &mut Halves,
     patience: u32,
-) -> Result<Open, NoMemory>
+    posts: &[Post],
+) -> Result<OpenEntry, NoMemory>
     requires { MayTake (command slot asks) subscribers.old halves.old }
     ensures takes { IfOk result (λ open_. TakesCommand slot line (patience + 1) asks open_ subscribers.old
         subscribers.new halves.old halves.new) }
@@ -94,9 +97,9 @@ fn take_command<R: Wait>(
 {
     rest_leaves_room();
     halves.admit(rt, slot, &mut subscribers[slot.0 as usize])?;
-    match halves.give_command(rt, slot, line, asks, patience) {
-        Given::Accepted { .. } => Ok(Open::Command(slot)),
-        Given::Full => Ok(Open::Full {
+    match halves.give_command(rt, slot, line, asks, patience, posts) {
+        Given::Accepted { .. } => Ok(OpenEntry::Command(slot)),
+        Given::Full => Ok(OpenEntry::Full {
             slot,
             packet: false,
         }),
@@ -112,7 +115,8 @@ fn take_packet<R: Wait>(
     subscribers: &mut [Subscriber],
     halves: &mut Halves,
     patience: u32,
-) -> Result<Open, NoMemory>
+    posts: &[Post],
+) -> Result<OpenEntry, NoMemory>
     requires { MayTake (packet slot lent.now) subscribers.old halves.old }
     ensures takes { IfOk result (λ open_. TakesPacket slot line (patience + 1) lent.now open_ subscribers.old
         subscribers.new halves.old halves.new) }
@@ -123,8 +127,8 @@ fn take_packet<R: Wait>(
     let numbered = lent.numbered(alloc, 0)?;
     rest_leaves_room();
     halves.admit(rt, slot, &mut subscribers[slot.0 as usize])?;
-    match halves.give_packet(rt, slot, line, numbered, patience)? {
-        Given::Accepted { parked } => Ok(Open::Packet { slot, parked }),
-        Given::Full => Ok(Open::Full { slot, packet: true }),
+    match halves.give_packet(rt, slot, line, numbered, patience, posts)? {
+        Given::Accepted { parked } => Ok(OpenEntry::Packet { slot, parked }),
+        Given::Full => Ok(OpenEntry::Full { slot, packet: true }),
     }
 }

@@ -1,3 +1,11 @@
 pub mod Apart
 pub mod BySlots
 pub mod Wholes
+pub mod DataBegins
+pub mod DataCloses
+pub mod DataEnds
+pub mod DataEvens
+pub mod DataFinds
+pub mod DataLaid
+pub mod DataLeftovers
+pub mod DataMoves

@@ -9,7 +9,7 @@ use Rattle.worker_core.specs.declared.home_lane.HomeLane.{HomeLane}
 use Rattle.worker_core.specs.Names.{arrivals, weight}
 use Rattle.worker_core.specs.Opened.{opened_sent, opened_taken}
 use Rattle.worker_core.specs.Workers.{desk_lanes, end_lanes}
-use Rattle.migration.specs.declared.place.Place.{Place}
+use Rattle.migration.specs.declared.place.ControlPlace.{ControlPlace}
 use Rattle.migration.specs.Desks.{sent_weight, home_weight}
 use Rattle.migration.specs.Places.{name_of, names_of, front_at, weight_at}
 
@@ -24,11 +24,11 @@ abbrev pub AreEnds : {H N : Type 0} {g : Ghosts H N} → List (Desk H) → List 
 AreEnds {H} {N} {g} desks ends = map (end_lanes {g = g}) ends ≡ map desk_lanes desks
 
 -- each half has the name that was admitted at its slot
-abbrev pub AtSlots : {H N : Type 0} → (H → N) → (N → ℕ) → List (Option (Place H)) → List H → Type 0
+abbrev pub AtSlots : {H N : Type 0} → (H → N) → (N → ℕ) → List (Option (ControlPlace H)) → List H → Type 0
 AtSlots name slot_of places halves = All (λ half. name_of name places (slot_of (name half)) ≡ Some (name half)) halves
 
 -- each name that was admitted is found, or is where it is still to be found, as often
-abbrev pub IsWhole : {H N : Type 0} → (H → N) → List (Option (Place H)) → List (Option (Place H)) → List H
+abbrev pub IsWhole : {H N : Type 0} → (H → N) → List (Option (ControlPlace H)) → List (Option (ControlPlace H)) → List H
     → List (Order H) → List H → Option (HomeLane H) → List (Desk H)
     → Type 0
 IsWhole {H} {N} name admitted places found left held opened desks =

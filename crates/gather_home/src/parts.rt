@@ -8,7 +8,7 @@ ghost use Rattle.gather_home.specs.Homecomings.{somes, AreEnds, AtSlots, IsWhole
 
 use crate::steps;
 use lane_core::NoMemory;
-use migration::{Place, SideEnd};
+use migration::{ControlPlace, SideEnd};
 use std::alloc::Global;
 use std::snapshot::Snapshot;
 use std::sync::Wait;
@@ -19,9 +19,9 @@ use worker_core::{Desk, HomeLane, LaneDesk, Order, Traveller, WorkerEnd, close_h
 pub struct HomeParts<H: Traveller> {
     alloc: Global,
     /// The places as they were when the side stopped, for clauses alone.
-    admitted: Snapshot<Vec<Option<Place<H>>>>,
+    admitted: Snapshot<Vec<Option<ControlPlace<H>>>>,
     /// Those that were not looked at yet.
-    places: Vec<Option<Place<H>>>,
+    places: Vec<Option<ControlPlace<H>>>,
     found: Vec<H>,
     /// Orders that no worker took.
     left: Vec<Order<H>>,

@@ -46,5 +46,6 @@ abbrev pub choose_code : List TftFilter → ℕ → List ℕ → ℕ
 choose_code filters default packet =
     if nat_lt 176 (length filters) then 27
     else if is_some (first_fault packet) then code_of (first_fault packet)
-    else if is_none (bearer_by (first_of (candidate_ranks (rows_said filters) (packet_of packet))) (not (default == 0))) then 26
+    else if is_none (bearer_by (first_of (candidate_ranks (rows_said filters) (packet_of packet)))
+    (not (default == 0))) then 26
     else 0

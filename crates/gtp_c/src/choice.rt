@@ -15,14 +15,19 @@ use crate::ip4::{bad_number, packet_at};
 use gtp_c_base::code::{NO_BEARER, TOO_MANY};
 use gtp_c_base::{TftComponent, TftFilter, component_said};
 use ipv4_packet::Ip4;
-use tft_match::{Direction, Ends, counts_in, ends_of, holds};
+use tft_match::{Direction, PacketEnds, counts_in, ends_of, holds};
 
 /// As many filters as eleven bearers have.
 const MOST_FILTERS: usize = 176;
 
 type Rank = (u8, u8, u8);
 
-fn all_hold(direction: Direction, said: &[TftComponent], packet: &Ip4<'_>, ends: &Ends) -> bool
+fn all_hold(
+    direction: Direction,
+    said: &[TftComponent],
+    packet: &Ip4<'_>,
+    ends: &PacketEnds,
+) -> bool
     requires ends { AreEnds packet.now ends.now }
     requires direction { ends.now.direction ≡ direction }
     ensures { result ≡ list_all (holds direction packet.now) (map component_said said.now) }
@@ -34,7 +39,7 @@ fn all_hold(direction: Direction, said: &[TftComponent], packet: &Ip4<'_>, ends:
     }
 }
 
-fn fits(direction: Direction, filter: &TftFilter, packet: &Ip4<'_>, ends: &Ends) -> bool
+fn fits(direction: Direction, filter: &TftFilter, packet: &Ip4<'_>, ends: &PacketEnds) -> bool
     requires ends { AreEnds packet.now ends.now }
     requires direction { ends.now.direction ≡ direction }
     ensures { result ≡ fits direction packet.now (filter_said filter.now) }
@@ -65,7 +70,7 @@ fn leads(rank: Rank, first: Option<Rank>) -> bool
 }
 
 /// The rank of the first filter that a downlink packet fits.
-fn first_rank(filters: &[TftFilter], packet: &Ip4<'_>, ends: &Ends) -> Option<Rank>
+fn first_rank(filters: &[TftFilter], packet: &Ip4<'_>, ends: &PacketEnds) -> Option<Rank>
     requires ends { AreEnds packet.now ends.now }
     requires down { ends.now.direction ≡ directions.Down }
     ensures { result ≡ first_of (candidate_ranks (rows_said filters.now) packet.now) }

@@ -1,5 +1,6 @@
 //! GTPv2-C: the head of a message.
-ghost use Rattle.std.specs.Prelude.{◌≡◌, ◌≢◌, ◌+◌, ◌^◌, ◌≤◌, ◌<◌, ◌==◌, true, is_some, length, if◌then◌else◌, Some, None, MatchOption};
+ghost use Rattle.std.specs.Prelude.{◌≡◌, ◌≢◌, ◌+◌, ◌^◌, ◌≤◌, ◌<◌, ◌==◌, true, is_some, length, if◌then◌else◌, Some};
+ghost use Rattle.std.specs.Prelude.{None, MatchOption};
 ghost use Rattle.gtpv2_msg.specs.Refusal.{header_fault};
 ghost use Rattle.gtp_c_base.specs.Fault.{code_of};
 ghost use Rattle.gtp_c.specs.Gtpv2.{Says};

@@ -104,7 +104,8 @@ fn spi_beside(packet: &Ip4<'_>, ports: Option<(u16, u16)>) -> Option<u32>
 #[unsafe(no_mangle)]
 pub extern "C" fn gtp_c_ip4_read(bytes: &[u8], head: &mut Ip4Head) -> u32
     ensures code { result ≡ code_of (first_fault bytes.now) }
-    ensures packet { MatchOption (first_fault bytes.now) (Says head.new (packet_of bytes.now)) (λ _. head.new ≡ head.old) }
+    ensures packet { MatchOption (first_fault bytes.now) (Says head.new (packet_of bytes.now))
+        (λ _. head.new ≡ head.old) }
 {
     match packet_at(bytes) {
         Err(bad) => bad_number(bad),

@@ -4,7 +4,7 @@ use mathlib.Core.Option.{some, some-ne-none}
 use lib.ListN.{get_elem?}
 use Rattle.crossbeam_queue.specs.Fifo.{Pushes, Pops, Forks, Merges, Learns}
 use Rattle.crossbeam_queue.proofs.Lists.{at_set, at_snoc}
-use Rattle.lane_core.specs.declared.sequence.Log.{Log}
+use Rattle.lane_core.specs.declared.sequence.EndLog.{EndLog}
 use Rattle.lane_core.specs.Sequence.{Lawful, log, Fits, Laid}
 
 module _ {T : Type 0} where
@@ -46,20 +46,20 @@ module _ {T : Type 0} (follows : List T → T → Type 0) where
   lawful_last got x lawful = lawful got x [] refl
 
 module _ {T : Type 0} where
-  at_end : (l : List (Log T)) (a b : Log T) (j : ℕ) → get_elem? l j ≢ some b → get_elem? (l ++ a ∷ []) j ≡ some b
+  at_end : (l : List (EndLog T)) (a b : EndLog T) (j : ℕ) → get_elem? l j ≢ some b → get_elem? (l ++ a ∷ []) j ≡ some b
       → j ≡ length l
   at_end [] a b zero n e = refl
   at_end [] a b (suc j) n e = absurd (some-ne-none b (sym e))
   at_end (x ∷ xs) a b zero n e = absurd (n e)
   at_end (x ∷ xs) a b (suc j) n e = ap suc (at_end xs a b j n e)
 
-  abbrev AllAt : (ℕ → Log T → Type 0) → List (Log T) → Type 0
-  AllAt F views = (port : ℕ) (v : Log T) → get_elem? views port ≡ some v → F port v
+  abbrev AllAt : (ℕ → EndLog T → Type 0) → List (EndLog T) → Type 0
+  AllAt F views = (port : ℕ) (v : EndLog T) → get_elem? views port ≡ some v → F port v
 
-  all_set : (F : ℕ → Log T → Type 0) (views : List (Log T)) (port : ℕ) (w : Log T) → F port w
-      → ((j : ℕ) (u : Log T) → j ≢ port → get_elem? views j ≡ some u → F j u) → AllAt F (set views port w)
+  all_set : (F : ℕ → EndLog T → Type 0) (views : List (EndLog T)) (port : ℕ) (w : EndLog T) → F port w
+      → ((j : ℕ) (u : EndLog T) → j ≢ port → get_elem? views j ≡ some u → F j u) → AllAt F (set views port w)
   all_set F views port w mine others j u e =
-      ⊎_elim (λ (x : (j ≡ port) × (w ≡ u)). subst (λ (y : ℕ × Log T). F y.0 y.1) (λ i. (sym x.0 i, x.1 i)) mine)
+      ⊎_elim (λ (x : (j ≡ port) × (w ≡ u)). subst (λ (y : ℕ × EndLog T). F y.0 y.1) (λ i. (sym x.0 i, x.1 i)) mine)
       (λ (x : (j ≢ port) × (get_elem? views j ≡ some u)). others j u x.0 x.1)
       (at_set views port j w u e)
 
@@ -80,11 +80,11 @@ module _ {T : Type 0} (follows : List T → T → Type 0) where
         (λ j u other e. absurd (other (at_end [] _ u j (λ x. some-ne-none u (sym x)) e)));
   }
 
-  pub sends : (n port : ℕ) (v : Log T) (x : T) → v.pushes ≡ true → length v.sent < 2 ^ 50 → follows v.sent x
+  pub sends : (n port : ℕ) (v : EndLog T) (x : T) → v.pushes ≡ true → length v.sent < 2 ^ 50 → follows v.sent x
       → Pushes (Laid follows) n port v x (λ w. (w ≡ log v.pushes v.pops (v.sent ++ x ∷ []) v.got)
       × Lawful follows (v.sent ++ x ∷ []))
   sends n port v x may few allowed items views room h at =
-      let w : Log T = log v.pushes v.pops (v.sent ++ x ∷ []) v.got in
+      let w : EndLog T = log v.pushes v.pops (v.sent ++ x ∷ []) v.got in
       let mine = h.views_fit port v at in
       let writer = mine.0 may in
       let more : Lawful follows (v.sent ++ x ∷ []) = lawful_more follows v.sent x
@@ -108,7 +108,7 @@ module _ {T : Type 0} (follows : List T → T → Type 0) where
         (refl, more),
       )
 
-  pub waits : (port : ℕ) (v : Log T) → v.pushes ≡ true
+  pub waits : (port : ℕ) (v : EndLog T) → v.pushes ≡ true
       → Learns (Laid follows) port v (λ items. (length items ≤ length v.sent) × Lawful follows v.sent)
   waits port v may items views h at =
       let writer = (h.views_fit port v at).0 may in (
@@ -117,12 +117,12 @@ module _ {T : Type 0} (follows : List T → T → Type 0) where
       )
 
   -- after a pop by who may pop, whatever else it knows
-  popped : (port : ℕ) (v : Log T) (x : T) (items : List T) (views : List (Log T)) → v.pops ≡ true
+  popped : (port : ℕ) (v : EndLog T) (x : T) (items : List T) (views : List (EndLog T)) → v.pops ≡ true
       → Laid follows (x ∷ items) views
       → get_elem? views port ≡ some v → Laid follows items
       (set views port (log v.pushes v.pops v.sent (v.got ++ x ∷ [])))
   popped port v x items views may h at =
-      let w : Log T = log v.pushes v.pops v.sent (v.got ++ x ∷ []) in
+      let w : EndLog T = log v.pushes v.pops v.sent (v.got ++ x ∷ []) in
       let mine = h.views_fit port v at in
       let reader = mine.1 may in
       record {
@@ -140,7 +140,7 @@ module _ {T : Type 0} (follows : List T → T → Type 0) where
             (λ j u other e. ((h.views_fit j u e).0, λ p. absurd (other (((h.views_fit j u e).1 p).0 ∙ sym reader.0))));
       }
 
-  pub takes : (port : ℕ) (v : Log T) → v.pops ≡ true
+  pub takes : (port : ℕ) (v : EndLog T) → v.pops ≡ true
       → Pops (Laid follows) port v (λ x w. (w ≡ log v.pushes v.pops v.sent (v.got ++ x ∷ []))
       × Lawful follows (v.got ++ x ∷ []) × (length (v.got ++ x ∷ []) ≤ 2 ^ 50))
   takes port v may x items views h at =
@@ -158,13 +158,13 @@ module _ {T : Type 0} (follows : List T → T → Type 0) where
         ),
       )
 
-  pub takes_none : (port : ℕ) (v : Log T) → v.pops ≡ true → Learns (Laid follows) port v (λ items. Lawful follows v.got)
+  pub takes_none : (port : ℕ) (v : EndLog T) → v.pops ≡ true → Learns (Laid follows) port v (λ items. Lawful follows v.got)
   takes_none port v may items views h at =
       let reader = (h.views_fit port v at).1 may in
       subst (Lawful follows) (sym reader.1) (lawful_front follows h.got items
       (subst (Lawful follows) h.in_order h.lawful))
 
-  pub rests : (port : ℕ) (v : Log T) → v.pushes ≡ true → v.pops ≡ true
+  pub rests : (port : ℕ) (v : EndLog T) → v.pushes ≡ true → v.pops ≡ true
       → Learns (Laid follows) port v (λ items. (v.sent ≡ v.got ++ items) × Lawful follows v.sent)
   rests port v may takes items views h at =
       let mine = h.views_fit port v at in (
@@ -172,7 +172,7 @@ module _ {T : Type 0} (follows : List T → T → Type 0) where
         subst (Lawful follows) (sym (mine.0 may).1) h.lawful,
       )
 
-  pub drains : (port : ℕ) (v : Log T) → v.pushes ≡ true → v.pops ≡ true
+  pub drains : (port : ℕ) (v : EndLog T) → v.pushes ≡ true → v.pops ≡ true
       → Pops (Laid follows) port v (λ x w. (w ≡ log v.pushes v.pops v.sent (v.got ++ x ∷ []))
       × (length (v.got ++ x ∷ []) ≤ length v.sent))
   drains port v may takes x items views h at =
@@ -187,12 +187,12 @@ module _ {T : Type 0} (follows : List T → T → Type 0) where
         (refl, (let e = ap length whole in omega (arith, length-append (v.got ++ x ∷ []) items, e))),
       )
 
-  pub parts : (port : ℕ) (v : Log T) → v.pushes ≡ true → v.pops ≡ true
+  pub parts : (port : ℕ) (v : EndLog T) → v.pushes ≡ true → v.pops ≡ true
       → Forks (Laid follows) port v (log true false v.sent []) (log false true [] v.got)
   parts port v may takes items views h at =
-      let left : Log T = log true false v.sent [] in let right : Log T = log false true [] v.got in
-      let mine = h.views_fit port v at in let vs : List (Log T) = set views port left in
-      let Old : ℕ → Log T → Type 0 = λ j u. (u.pushes ≡ true → (j ≡ h.writer) × (u.sent ≡ h.sent)) × (u.pops ≢ true) in
+      let left : EndLog T = log true false v.sent [] in let right : EndLog T = log false true [] v.got in
+      let mine = h.views_fit port v at in let vs : List (EndLog T) = set views port left in
+      let Old : ℕ → EndLog T → Type 0 = λ j u. (u.pushes ≡ true → (j ≡ h.writer) × (u.sent ≡ h.sent)) × (u.pops ≢ true) in
       let old : AllAt Old vs = all_set Old views port left ((λ _. mine.0 may), λ p. true≢false (sym p))
       (λ j u other e. ((h.views_fit j u e).0, λ p. other (((h.views_fit j u e).1 p).0 ∙ sym (mine.1 takes).0))) in
       record {
@@ -205,25 +205,25 @@ module _ {T : Type 0} (follows : List T → T → Type 0) where
         lawful = h.lawful;
         views_fit = λ j u e. ⊎_elim (λ x. ((old j u x).0, λ p. absurd ((old j u x).1 p)))
             (λ (is : right ≡ u). (
-              (λ p. absurd (true≢false (sym (ap (λ (y : Log T). y.pushes) is ∙ p)))),
+              (λ p. absurd (true≢false (sym (ap (λ (y : EndLog T). y.pushes) is ∙ p)))),
               λ p. (
                 at_end vs right u j (λ x. (old j u x).1 p) e,
-                ap (λ (y : Log T). y.got) (sym is)
+                ap (λ (y : EndLog T). y.got) (sym is)
                     ∙ (mine.1 takes).1,
               ),
             ))
             (at_snoc vs right u j e);
       }
 
-  pub joins : (port : ℕ) (v : Log T) (other : ℕ) (u : Log T) → v.pushes ≡ true → u.pops ≡ true
+  pub joins : (port : ℕ) (v : EndLog T) (other : ℕ) (u : EndLog T) → v.pushes ≡ true → u.pops ≡ true
       → Merges (Laid follows) port v other u (log true true v.sent u.got) (log false false [] [])
   joins port v other u may takes items views h at two at' =
-      let both : Log T = log true true v.sent u.got in let mine = h.views_fit port v at in let vs : List (Log T) =
+      let both : EndLog T = log true true v.sent u.got in let mine = h.views_fit port v at in let vs : List (EndLog T) =
       set views port both in
       let was : get_elem? views other ≡ some u = ⊎_elim (λ x. absurd (two x.0)) (λ x. x.1)
       (at_set views port other both u at') in
       let theirs = (h.views_fit other u was).1 takes in
-      let Now : ℕ → Log T → Type 0 = λ j y. j ≢ other → Fits h.writer port h.sent h.got j y in
+      let Now : ℕ → EndLog T → Type 0 = λ j y. j ≢ other → Fits h.writer port h.sent h.got j y in
       let now : AllAt Now vs = all_set Now views port both (λ _. ((λ _. mine.0 may), λ _. (refl, theirs.1)))
       (λ j y _ e apart. ((h.views_fit j y e).0, λ p. absurd (apart (((h.views_fit j y e).1 p).0 ∙ sym theirs.0)))) in
       record {

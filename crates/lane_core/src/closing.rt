@@ -5,7 +5,7 @@ ghost use Rattle.crossbeam_queue.specs.Passes.{view, IsPassOf, ruled_capacity};
 ghost use Rattle.lane_core.specs.Sequence.{Lawful};
 ghost use Rattle.lane_core.specs.Ends.{sender_lane, receiver_lane, sent, taken};
 
-use crate::sequence::{Drains, Joined, Line, Log};
+use crate::sequence::{Drains, EndLog, Joined, Line};
 use crate::{Carried, Receiver, Sender};
 use crossbeam_queue::Pass;
 use std::alloc::Global;
@@ -53,7 +53,7 @@ pub fn close<T: Carried, R: Wait>(
 fn drained<T: Carried, R: Wait>(
     rt: &R,
     queue: &Line<T>,
-    mut pass: Pass<T, Log<T>>,
+    mut pass: Pass<T, EndLog<T>>,
     mut rest: Vec<T>,
 ) -> Vec<T>
     requires pass { IsPassOf queue.now pass }

@@ -4,7 +4,7 @@ ghost use Rattle.std.specs.Arc.{arc_value};
 ghost use Rattle.crossbeam_queue.specs.Passes.{view, IsPassOf};
 
 use crate::Carried;
-use crate::sequence::{Line, Log, Sends, Takes};
+use crate::sequence::{EndLog, Line, Sends, Takes};
 use crossbeam_queue::Pass;
 use std::alloc::Global;
 use std::sync::{Arc, Wait};
@@ -13,7 +13,7 @@ use std::sync::{Arc, Wait};
 #[derive(Drop)]
 pub struct Sender<T: Carried> {
     pub(crate) queue: Arc<Line<T>, Global>,
-    pub(crate) pass: Pass<T, Log<T>>,
+    pub(crate) pass: Pass<T, EndLog<T>>,
     pub(crate) offers: u64,
     pub(crate) fulls: u64,
     ghost of_lane: { IsPassOf (arc_value queue) pass },
@@ -26,7 +26,7 @@ pub struct Sender<T: Carried> {
 #[derive(Drop)]
 pub struct Receiver<T: Carried> {
     pub(crate) queue: Arc<Line<T>, Global>,
-    pub(crate) pass: Pass<T, Log<T>>,
+    pub(crate) pass: Pass<T, EndLog<T>>,
     pub(crate) takes: u64,
     pub(crate) empties: u64,
     ghost of_lane: { IsPassOf (arc_value queue) pass },

@@ -27,3 +27,17 @@ pub mod ParkedRow
 pub mod LaneRows
 pub mod WholeRow
 pub mod InRange
+pub mod Outlines
+pub mod Ceilings
+pub mod Fillings
+pub mod Bounding
+pub mod Joining
+pub mod LastMoves
+pub mod Octets
+pub mod SessionsIn
+pub mod PacketsIn
+pub mod PastsIn
+pub mod ChargesIn
+pub mod AsksOnce
+pub mod Answers
+pub mod HeldCame

@@ -20,3 +20,10 @@ pub mod Ledger
 pub mod Placing
 pub mod Worked
 pub mod WholeTrace
+pub mod Filling
+pub mod Floors
+pub mod Joined
+pub mod Marks
+pub mod Opened
+pub mod Ranges
+pub mod RangeLaws

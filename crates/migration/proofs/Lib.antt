@@ -5,3 +5,17 @@ pub mod Pumps
 pub mod Servings
 pub mod SideSteps
 pub mod StateSteps
+pub mod DataCounted
+pub mod DataDesks
+pub mod DataKeeps
+pub mod DataListings
+pub mod DataPasses
+pub mod DataPumps
+pub mod DataQueues
+pub mod DataReturns
+pub mod DataRising
+pub mod DataShortened
+pub mod DataSides
+pub mod DataSlots
+pub mod DataTables
+pub mod DataUntouched

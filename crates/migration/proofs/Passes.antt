@@ -9,9 +9,9 @@ use Rattle.lane_core.specs.Ends.{sent}
 use Rattle.worker_core.specs.Desks.{Desk}
 use Rattle.worker_core.specs.declared.order.Order.{Order}
 use Rattle.worker_core.specs.declared.order.Order.TheVariants.{Arrive, Leave}
-use Rattle.migration.specs.declared.place.Place.{Place}
-use Rattle.migration.specs.declared.place.State.{State}
-use Rattle.migration.specs.declared.place.State.TheVariants.{Front, Placed, Recall, Leaving}
+use Rattle.migration.specs.declared.place.ControlPlace.{ControlPlace}
+use Rattle.migration.specs.declared.place.ControlState.{ControlState}
+use Rattle.migration.specs.declared.place.ControlState.TheVariants.{Front, Placed, Recall, Leaving}
 use Rattle.worker_core.specs.Desks.{Given, Refused, Taken, Empty}
 use Rattle.migration.specs.Places.{place_at, hop_at, is_leaving}
 use Rattle.migration.specs.Steps.{Serves, PlaceServed, ServedAt, Welcomes}
@@ -20,10 +20,10 @@ use Rattle.migration.specs.Passes.{Passes}
 use Rattle.worker_core.proofs.AtDesks.{changed_map}
 
 module _ {H : Type 0} where
-  pub falls_same : (place : Option (Place H)) → Falls place place
+  pub falls_same : (place : Option (ControlPlace H)) → Falls place place
   falls_same place = (omega arith, (λ slice until is. is), refl)
 
-  falls_then : (a b c : Option (Place H)) → Falls a b → Falls b c → Falls a c
+  falls_then : (a b c : Option (ControlPlace H)) → Falls a b → Falls b c → Falls a c
   falls_then a b c first second = (
     (let x = first.0 in let y = second.0 in omega arith),
     (λ slice until is. first.1 slice until (second.1 slice until is)),
@@ -31,7 +31,7 @@ module _ {H : Type 0} where
   )
 
   -- no other place changed
-  falls_set : (places : List (Option (Place H))) (slot : ℕ) (place : Option (Place H)) → slot < length places
+  falls_set : (places : List (Option (ControlPlace H))) (slot : ℕ) (place : Option (ControlPlace H)) → slot < length places
       → Falls (place_at places slot) place
       → (k : ℕ) → Falls (place_at places k) (place_at (set places slot place) k)
   falls_set places slot place within falls k = elim (nat_eq k slot) as (λ b. nat_eq k slot ≡ b
@@ -44,19 +44,19 @@ module _ {H : Type 0} where
       ] refl
 
   -- a half that isn't awaited
-  pub not_leaving : (state : State H) → is_leaving state ≡ false → (stage state ≡ 0) ⊎ (2 ≤ stage state)
+  pub not_leaving : (state : ControlState H) → is_leaving state ≡ false → (stage state ≡ 0) ⊎ (2 ≤ stage state)
   not_leaving (Front half to) not = inl refl
   not_leaving (Placed at) not = inl refl
   not_leaving (Recall at until to) not = inr (omega arith)
   not_leaving (Leaving from to) not = absurd (true≢false not)
 
 module _ {H : Type 0} (slot_of hop_of : H → ℕ) where
-  gave_none : (places : List (Option (Place H))) (slice : ℕ) (before now : List (Order H)) → now ≡ before
+  gave_none : (places : List (Option (ControlPlace H))) (slice : ℕ) (before now : List (Order H)) → now ≡ before
       → Gave slot_of hop_of places slice before now
   gave_none places slice before now same =
       ([], same ∙ sym (append-nil before), All-nil (Lawful slot_of hop_of places slice))
 
-  lawful_since : (places new : List (Option (Place H)))
+  lawful_since : (places new : List (Option (ControlPlace H)))
       → ((slot : ℕ) → Falls (place_at places slot) (place_at new slot)) → (slice : ℕ) (order : Order H)
       → Lawful slot_of hop_of new slice order → Lawful slot_of hop_of places slice order
   lawful_since places new falls slice (Arrive half) lawful = lawful ∙ (falls (slot_of half)).2
@@ -64,11 +64,11 @@ module _ {H : Type 0} (slot_of hop_of : H → ℕ) where
 
 module _ {H : Type 0} (slot_of hop_of : H → ℕ) where
   -- one after another
-  pub passes_then : (p0 p1 p2 : List (Option (Place H))) (a0 a1 a2 : List H) (d0 d1 d2 : List (Desk H))
+  pub passes_then : (p0 p1 p2 : List (Option (ControlPlace H))) (a0 a1 a2 : List H) (d0 d1 d2 : List (Desk H))
       → Passes slot_of hop_of p0 p1 a0 a1 d0 d1 → Passes slot_of hop_of p1 p2 a1 a2 d1 d2
       → Passes slot_of hop_of p0 p2 a0 a2 d0 d2
   passes_then p0 p1 p2 a0 a1 a2 d0 d1 d2 first second =
-      let Fits : List (Option (Place H)) → List (Option (Place H)) → H → Type 0 =
+      let Fits : List (Option (ControlPlace H)) → List (Option (ControlPlace H)) → H → Type 0 =
       λ old new half. (stage_at (place_at new (slot_of half)) ≡ 0) ⊎ (2 ≤ stage_at (place_at old (slot_of half))) in
       record {
         falls = λ slot. falls_then (place_at p0 slot) (place_at p1 slot) (place_at p2 slot) (first.falls slot)
@@ -94,12 +94,12 @@ module _ {H : Type 0} (slot_of hop_of : H → ℕ) where
       }
 
   -- neither places nor what is aside nor orders changed
-  pub passes_same : (places new : List (Option (Place H))) (aside new_aside : List H) (desks now : List (Desk H))
+  pub passes_same : (places new : List (Option (ControlPlace H))) (aside new_aside : List H) (desks now : List (Desk H))
       → new ≡ places → new_aside ≡ aside
       → ((slice : ℕ) → sent_at now slice ≡ sent_at desks slice)
       → Passes slot_of hop_of places new aside new_aside desks now
   passes_same places new aside new_aside desks now same alike orders = record {
-    falls = λ slot. subst (λ (l : List (Option (Place H))). Falls (place_at places slot) (place_at l slot))
+    falls = λ slot. subst (λ (l : List (Option (ControlPlace H))). Falls (place_at places slot) (place_at l slot))
         (sym same) (falls_same (place_at places slot));
     more = [];
     kept = alike ∙ sym (append-nil aside);
@@ -109,7 +109,7 @@ module _ {H : Type 0} (slot_of hop_of : H → ℕ) where
   }
 
   -- none came home
-  pub passes_empty : (slice : ℕ) (places : List (Option (Place H))) (aside : List H) (desks now : List (Desk H))
+  pub passes_empty : (slice : ℕ) (places : List (Option (ControlPlace H))) (aside : List H) (desks now : List (Desk H))
       → Empty slice desks now
       → Passes slot_of hop_of places places aside aside desks now
   passes_empty slice places aside desks now none = passes_same places places aside aside desks now refl refl
@@ -117,13 +117,13 @@ module _ {H : Type 0} (slot_of hop_of : H → ℕ) where
       (λ (desk : Desk H). sent desk.orders) (ap sent none.orders)))
 
   -- a half came home
-  pub passes_home : (slice slot : ℕ) (half : H) (place : Option (Place H)) (places new : List (Option (Place H)))
+  pub passes_home : (slice slot : ℕ) (half : H) (place : Option (ControlPlace H)) (places new : List (Option (ControlPlace H)))
       (aside : List H) (desks now : List (Desk H))
       → Taken slice half desks now → slot < length places → new ≡ set places slot place
       → Welcomes half (place_at places slot) place None
       → Passes slot_of hop_of places new aside aside desks now
   passes_home slice slot half place places new aside desks now took within is welcomes = record {
-    falls = λ k. subst (λ (l : List (Option (Place H))). Falls (place_at places k) (place_at l k)) (sym is)
+    falls = λ k. subst (λ (l : List (Option (ControlPlace H))). Falls (place_at places k) (place_at l k)) (sym is)
         (falls_set places slot place within (
           (let a = ap stage_at welcomes.3 ∙ ap stage welcomes.6.3 in omega arith),
           (λ at until told. absurd (subst (IsRecall at until) welcomes.6.3
@@ -140,13 +140,13 @@ module _ {H : Type 0} (slot_of hop_of : H → ℕ) where
   }
 
   -- a half that wasn't awaited is kept aside
-  pub passes_aside : (slice : ℕ) (half : H) (places new : List (Option (Place H))) (aside new_aside : List H)
+  pub passes_aside : (slice : ℕ) (half : H) (places new : List (Option (ControlPlace H))) (aside new_aside : List H)
       (desks now : List (Desk H))
       → Taken slice half desks now → new ≡ places → new_aside ≡ aside ++ half ∷ []
       → Unawaited (place_at places (slot_of half))
       → Passes slot_of hop_of places new aside new_aside desks now
   passes_aside slice half places new aside new_aside desks now took same more far =
-      subst (λ (l : List (Option (Place H))). Passes slot_of hop_of places l aside new_aside desks now) (sym same)
+      subst (λ (l : List (Option (ControlPlace H))). Passes slot_of hop_of places l aside new_aside desks now) (sym same)
       (record {
         falls = λ slot. falls_same (place_at places slot);
         more = half ∷ [];
@@ -160,7 +160,7 @@ module _ {H : Type 0} (slot_of hop_of : H → ℕ) where
             (λ (desk : Desk H). sent desk.orders) (ap sent took.orders)));
       })
 
-  given_gave : (places : List (Option (Place H))) (slice : ℕ) (order : Order H) (desks now : List (Desk H))
+  given_gave : (places : List (Option (ControlPlace H))) (slice : ℕ) (order : Order H) (desks now : List (Desk H))
       → Given slice order desks now
       → Lawful slot_of hop_of places slice order → (other : ℕ) → Gave slot_of hop_of places other (sent_at desks other)
       (sent_at now other)
@@ -186,7 +186,7 @@ module _ {H : Type 0} (slot_of hop_of : H → ℕ) where
             (eqb-false other slice e))
       ] refl
 
-  refused_gave : (places : List (Option (Place H))) (slice : ℕ) (desks now : List (Desk H)) → Refused slice desks now
+  refused_gave : (places : List (Option (ControlPlace H))) (slice : ℕ) (desks now : List (Desk H)) → Refused slice desks now
       → (other : ℕ) → Gave slot_of hop_of places other (sent_at desks other) (sent_at now other)
   refused_gave places slice desks now refused other =
       gave_none slot_of hop_of places other (sent_at desks other) (sent_at now other)
@@ -194,13 +194,13 @@ module _ {H : Type 0} (slot_of hop_of : H → ℕ) where
       (λ (desk : Desk H). sent desk.orders) refused.sent))
 
   -- what a state becomes as its order is offered, and the orders given
-  pub record StatePasses (places : List (Option (Place H))) (old new : State H)
+  pub record StatePasses (places : List (Option (ControlPlace H))) (old new : ControlState H)
       (desks now : List (Desk H)) : Type 0 where
     pub lower : stage new ≤ stage old
     pub told : (slice until : ℕ) → IsRecall slice until new → IsRecall slice until old
     pub gave : (slice : ℕ) → Gave slot_of hop_of places slice (sent_at desks slice) (sent_at now slice)
 
-  state_same : (places : List (Option (Place H))) (old new : State H) (desks now : List (Desk H)) → new ≡ old
+  state_same : (places : List (Option (ControlPlace H))) (old new : ControlState H) (desks now : List (Desk H)) → new ≡ old
       → now ≡ desks → StatePasses places old new desks now
   state_same places old new desks now same alike = record {
     lower = let a = ap stage same in omega arith;
@@ -210,7 +210,7 @@ module _ {H : Type 0} (slot_of hop_of : H → ℕ) where
   }
 
   module _ {N : Type 0} (name : H → N) where
-    serves_passes : (places : List (Option (Place H))) (slot hop : ℕ) (old new : State H)
+    serves_passes : (places : List (Option (ControlPlace H))) (slot hop : ℕ) (old new : ControlState H)
         (desks now : List (Desk H)) → hop ≡ hop_at (place_at places slot)
         → ((half told : H) (to : ℕ) → old ≡ Front half to → name told ≡ name half → slot_of told ≡ slot)
         → ((slice until : ℕ) → IsRecall slice until old → IsRecallAt slice until (place_at places slot))
@@ -246,10 +246,10 @@ module _ {H : Type 0} (slot_of hop_of : H → ℕ) where
     serves_passes places slot hop (Leaving from to) new desks now hopped own recall serves =
         state_same places (Leaving from to) new desks now serves.0 serves.1
 
-    served_passes : (places : List (Option (Place H))) (slot : ℕ) (old place : Option (Place H)) (aside : List H)
+    served_passes : (places : List (Option (ControlPlace H))) (slot : ℕ) (old place : Option (ControlPlace H)) (aside : List H)
         (desks now : List (Desk H))
         → old ≡ place_at places slot → slot < length places
-        → ((before : Place H) (half told : H) (to : ℕ) → old ≡ Some before → before.state ≡ Front half to
+        → ((before : ControlPlace H) (half told : H) (to : ℕ) → old ≡ Some before → before.state ≡ Front half to
         → name told ≡ name half → slot_of told ≡ slot)
         → PlaceServed name hop_of slot old place desks now
         → Passes slot_of hop_of places (set places slot place) aside aside desks now
@@ -262,7 +262,7 @@ module _ {H : Type 0} (slot_of hop_of : H → ℕ) where
         let step = serves_passes places slot before.hop before.state after.state desks now (ap hop_at is)
         (λ half told to. own before half told to refl)
         (λ slice until. subst (IsRecallAt slice until) is) served.4 in record {
-          falls = falls_set places slot place within (subst (λ (p : Option (Place H)). Falls p place) is (
+          falls = falls_set places slot place within (subst (λ (p : Option (ControlPlace H)). Falls p place) is (
             (let a = step.lower in let b = ap stage_at served.1 in omega arith),
             (λ slice until told. step.told slice until (subst (IsRecallAt slice until) served.1 told)),
             ap hop_at served.1 ∙ served.2,
@@ -275,14 +275,14 @@ module _ {H : Type 0} (slot_of hop_of : H → ℕ) where
         }
 
     -- the order of a slot was offered
-    pub passes_served : (places new : List (Option (Place H))) (slot : ℕ) (waits : Bool) (aside new_aside : List H)
+    pub passes_served : (places new : List (Option (ControlPlace H))) (slot : ℕ) (waits : Bool) (aside new_aside : List H)
         (desks now : List (Desk H))
         → slot < length places → new_aside ≡ aside
-        → ((before : Place H) (half told : H) (to : ℕ) → place_at places slot ≡ Some before
+        → ((before : ControlPlace H) (half told : H) (to : ℕ) → place_at places slot ≡ Some before
         → before.state ≡ Front half to → name told ≡ name half → slot_of told ≡ slot)
         → ServedAt name hop_of slot waits places new desks now
         → Passes slot_of hop_of places new aside new_aside desks now
     passes_served places new slot waits aside new_aside desks now within same own served =
-        subst (λ (p : List (Option (Place H)) × List H). Passes slot_of hop_of places p.0 aside p.1 desks now)
+        subst (λ (p : List (Option (ControlPlace H)) × List H). Passes slot_of hop_of places p.0 aside p.1 desks now)
         (λ i. (sym served.1 i, sym same i))
         (served_passes places slot (place_at places slot) served.0 aside desks now refl within own served.3)

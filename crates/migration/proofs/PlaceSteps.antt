@@ -16,9 +16,9 @@ use Rattle.worker_core.specs.declared.order.Order.{Order}
 use Rattle.worker_core.specs.Names.{arrivals, weight}
 use Rattle.worker_core.specs.Workers.{IsNewDesk}
 use Rattle.worker_core.proofs.Arrivals.{weight-push}
-use Rattle.migration.specs.declared.place.Place.{Place}
-use Rattle.migration.specs.declared.place.State.{State}
-use Rattle.migration.specs.declared.place.State.TheVariants.{Front, Placed, Recall, Leaving}
+use Rattle.migration.specs.declared.place.ControlPlace.{ControlPlace}
+use Rattle.migration.specs.declared.place.ControlState.{ControlState}
+use Rattle.migration.specs.declared.place.ControlState.TheVariants.{Front, Placed, Recall, Leaving}
 use Rattle.migration.specs.Desks.{sent_weight, home_weight}
 use Rattle.worker_core.specs.Desks.{lanes_of, homes_of, order_count, fulls_at, Taken, Empty}
 use Rattle.migration.specs.Places.{place_at, pending_at, is_admitted, is_waiting, is_waiting_at, waits_at, PlaceFits}
@@ -49,7 +49,7 @@ abbrev pub on : ℕ → ℕ → ℕ
 on slot k = cond (nat_eq k slot) 1 0
 
 -- a place changed with the desks; so many orders may be given more
-pub record PlaceStep {H N : Type 0} (name : H → N) (spare : ℕ) (old new : Option (Place H))
+pub record PlaceStep {H N : Type 0} (name : H → N) (spare : ℕ) (old new : Option (ControlPlace H))
     (desks now : List (Desk H)) : Type 0 where
   pub lanes : lanes_of now ≡ lanes_of desks
   pub homes : homes_of now ≡ homes_of desks
@@ -65,7 +65,7 @@ pub record PlaceStep {H N : Type 0} (name : H → N) (spare : ℕ) (old new : Op
       ⊎ (fulls_at now slice ≡ raised (fulls_at desks slice))
 
 module _ {H N : Type 0} (name : H → N) (hop_of : H → ℕ) (desks now : List (Desk H)) where
-  state_place : (spare : ℕ) (before after : Place H) → after.admitted ≡ before.admitted
+  state_place : (spare : ℕ) (before after : ControlPlace H) → after.admitted ≡ before.admitted
       → StateStep name spare before.state after.state desks now
       → PlaceStep name spare (Some before) (Some after) desks now
   state_place spare before after same step = record {
@@ -80,17 +80,17 @@ module _ {H N : Type 0} (name : H → N) (hop_of : H → ℕ) (desks now : List 
   }
 
   -- a slot's order was offered
-  pub served_place : (slot n asked : ℕ) (old new : Option (Place H)) → is_waiting_at old ≡ true → PlaceFits n asked old
+  pub served_place : (slot n asked : ℕ) (old new : Option (ControlPlace H)) → is_waiting_at old ≡ true → PlaceFits n asked old
       → PlaceServed name hop_of slot old new desks now
       → PlaceStep name 0 old new desks now × ((slice : ℕ) → waits_at new ≡ Some slice
       → fulls_at now slice ≡ raised (fulls_at desks slice))
       × PlaceFits n asked new × (hop_at new ≡ hop_at old)
   served_place slot n asked None new waits fits served = absurd (true≢false (sym waits))
   served_place slot n asked (Some before) new waits fits served =
-      let after : Place H = served.0 in
+      let after : ControlPlace H = served.0 in
       let step = serves_step name desks now hop_of slot before.hop before.state after.state served.4 in
       let back : Some after ≡ new = sym served.1 in
-      subst (λ (x : Option (Place H)). PlaceStep name 0 (Some before) x desks now
+      subst (λ (x : Option (ControlPlace H)). PlaceStep name 0 (Some before) x desks now
       × ((slice : ℕ) → waits_at x ≡ Some slice → fulls_at now slice ≡ raised (fulls_at desks slice))
       × PlaceFits n asked x × (hop_at x ≡ before.hop)) back (
         state_place 0 before after served.3 step.0,
@@ -104,13 +104,13 @@ module _ {H N : Type 0} (name : H → N) (hop_of : H → ℕ) (desks now : List 
       )
 
   -- a slot moved
-  pub moved_place : (slot slice until n asked : ℕ) (old new : Option (Place H)) → PlaceFits n asked old → slice < n
+  pub moved_place : (slot slice until n asked : ℕ) (old new : Option (ControlPlace H)) → PlaceFits n asked old → slice < n
       → Moves slot slice until old new desks now → PlaceStep name 2 old new desks now × PlaceFits n (asked + 1) new
   moved_place slot slice until n asked old new fits there moves =
       let before = moves.before in
       let after = moves.now in
       let fits : PlaceFits n asked (Some before) = subst (PlaceFits n asked) moves.was fits in
-      subst (λ (p : Option (Place H) × Option (Place H)). PlaceStep name 2 p.0 p.1 desks now
+      subst (λ (p : Option (ControlPlace H) × Option (ControlPlace H)). PlaceStep name 2 p.0 p.1 desks now
       × PlaceFits n (asked + 1) p.1) (λ i. (sym moves.was i, sym moves.is i)) (
         state_place 2 before after moves.admitted (goes_step name desks now slot slice until before.state
             after.state moves.goes),
@@ -123,7 +123,7 @@ module _ {H N : Type 0} (name : H → N) (hop_of : H → ℕ) (desks now : List 
 
 module _ {H N : Type 0} (name : H → N) (slot_of : N → ℕ) where
   -- a half at the front stays one of its slot
-  serves_own : (hop_of : H → ℕ) (desks now : List (Desk H)) (own slot hop : ℕ) (old new : State H)
+  serves_own : (hop_of : H → ℕ) (desks now : List (Desk H)) (own slot hop : ℕ) (old new : ControlState H)
       → IsOwn name slot_of own old → Serves name hop_of slot hop old new desks now → IsOwn name slot_of own new
   serves_own hop_of desks now own slot hop (Front half to) new is serves = elim serves.outcome [
     | inl put ↦ subst (IsOwn name slot_of own) (sym put.0) refl
@@ -138,15 +138,15 @@ module _ {H N : Type 0} (name : H → N) (slot_of : N → ℕ) where
   serves_own hop_of desks now own slot hop (Leaving from to) new is serves =
       subst (IsOwn name slot_of own) (sym serves.0) refl
 
-  served_own : (hop_of : H → ℕ) (desks now : List (Desk H)) (slot : ℕ) (old new : Option (Place H))
+  served_own : (hop_of : H → ℕ) (desks now : List (Desk H)) (slot : ℕ) (old new : Option (ControlPlace H))
       → IsOwnAt name slot_of slot old → PlaceServed name hop_of slot old new desks now → IsOwnAt name slot_of slot new
   served_own hop_of desks now slot None new is served = subst (IsOwnAt name slot_of slot) (sym served.0) refl
   served_own hop_of desks now slot (Some before) new is served =
-      let after : Place H = served.0 in
+      let after : ControlPlace H = served.0 in
       subst (IsOwnAt name slot_of slot) (sym served.1)
       (serves_own hop_of desks now slot slot before.hop before.state after.state is served.4)
 
-  goes_own : (desks now : List (Desk H)) (slot slice until : ℕ) (old new : State H) → IsOwn name slot_of slot old
+  goes_own : (desks now : List (Desk H)) (slot slice until : ℕ) (old new : ControlState H) → IsOwn name slot_of slot old
       → Goes slot slice until old new desks now → IsOwn name slot_of slot new
   goes_own desks now slot slice until (Front half to) new is goes = subst (IsOwn name slot_of slot) (sym goes.0) is
   goes_own desks now slot slice until (Placed at) new is goes = elim goes [
@@ -157,17 +157,17 @@ module _ {H N : Type 0} (name : H → N) (slot_of : N → ℕ) where
       subst (IsOwn name slot_of slot) (sym goes.0) refl
   goes_own desks now slot slice until (Leaving from to) new is goes = subst (IsOwn name slot_of slot) (sym goes.0) refl
 
-  moved_own : (desks now : List (Desk H)) (slot slice until : ℕ) (old new : Option (Place H))
+  moved_own : (desks now : List (Desk H)) (slot slice until : ℕ) (old new : Option (ControlPlace H))
       → IsOwnAt name slot_of slot old → Moves slot slice until old new desks now → IsOwnAt name slot_of slot new
   moved_own desks now slot slice until old new is moves =
-      let before : Place H = moves.before in
-      let after : Place H = moves.now in
+      let before : ControlPlace H = moves.before in
+      let after : ControlPlace H = moves.now in
       subst (IsOwnAt name slot_of slot) (sym moves.is)
       (goes_own desks now slot slice until before.state after.state
       (subst (IsOwnAt name slot_of slot) moves.was is) moves.goes)
 
   -- a place took a step
-  pub stepped_side : (spare : ℕ) (places : List (Option (Place H))) (place : Option (Place H)) (slot : ℕ)
+  pub stepped_side : (spare : ℕ) (places : List (Option (ControlPlace H))) (place : Option (ControlPlace H)) (slot : ℕ)
       (aside : List H) (desks now : List (Desk H))
       (waiting new_waiting serving new_serving : List ℕ) (admitted asked new_asked : ℕ)
       → IsSide name slot_of places aside desks waiting serving admitted asked → slot < length places
@@ -203,13 +203,13 @@ module _ {H N : Type 0} (name : H → N) (slot_of : N → ℕ) where
       })
 
   -- the slot that is served next has an order to give
-  pub queued_here : (places : List (Option (Place H))) (slot : ℕ) → BySlot slot_of (names_of name places)
+  pub queued_here : (places : List (Option (ControlPlace H))) (slot : ℕ) → BySlot slot_of (names_of name places)
       → 0 < sum_by (wait_weight name slot_of (on slot)) places → is_waiting_at (place_at places slot) ≡ true
   queued_here places slot slots some = elim (is_waiting_at (place_at places slot))
       as (λ b. is_waiting_at (place_at places slot) ≡ b → is_waiting_at (place_at places slot) ≡ true) [
         | true ↦ λ e. e
         | false ↦ λ e.
-            let f : Option (Place H) → ℕ = wait_weight name slot_of (on slot) in
+            let f : Option (ControlPlace H) → ℕ = wait_weight name slot_of (on slot) in
             let all : All (λ x. f x ≤ 0) places = All-from_get_or (λ x. f x ≤ 0) places None (λ k within.
             elim (nat_eq k slot) as (λ b. nat_eq k slot ≡ b → f (place_at places k) ≤ 0) [
               | true ↦ λ same. subst (λ (n : ℕ). f (place_at places n) ≤ 0) (sym (eqb-true k slot same))
@@ -234,7 +234,7 @@ module _ {H N : Type 0} (name : H → N) (slot_of : N → ℕ) where
         cond_zero true = refl
         cond_zero false = refl
 
-  pub waiting_within : (places : List (Option (Place H))) (slot : ℕ) → is_waiting_at (place_at places slot) ≡ true
+  pub waiting_within : (places : List (Option (ControlPlace H))) (slot : ℕ) → is_waiting_at (place_at places slot) ≡ true
       → slot < length places
   waiting_within places slot waits = elim (nat_lt slot (length places)) as (λ b. nat_lt slot (length places) ≡ b
       → slot < length places) [
@@ -244,7 +244,7 @@ module _ {H N : Type 0} (name : H → N) (slot_of : N → ℕ) where
       ] refl
 
   -- the slots with an order to give are no more than those admitted
-  pub waiting_few : (places : List (Option (Place H))) (aside : List H) (desks : List (Desk H))
+  pub waiting_few : (places : List (Option (ControlPlace H))) (aside : List H) (desks : List (Desk H))
       (waiting serving : List ℕ) (admitted asked : ℕ)
       → IsSide name slot_of places aside desks waiting serving admitted asked
       → length waiting + length serving ≤ admitted
@@ -258,7 +258,7 @@ module _ {H N : Type 0} (name : H → N) (slot_of : N → ℕ) where
         cond_le true = omega arith
         cond_le false = omega arith
 
-        wait_one : (x : Option (Place H)) → wait_weight name slot_of (λ _. 1) x ≤ cond (is_admitted x) 1 0
+        wait_one : (x : Option (ControlPlace H)) → wait_weight name slot_of (λ _. 1) x ≤ cond (is_admitted x) 1 0
         wait_one None = omega arith
         wait_one (Some place) = cond_le (is_waiting place.state)
 
@@ -289,12 +289,12 @@ module _ {H N : Type 0} (name : H → N) (slot_of : N → ℕ) where
         let c = new_sum desks (All-tail IsNewDesk d desks new) f zero_at in omega arith
 
   -- a half came home to a slot that was leaving
-  pub came_home : (places new_places : List (Option (Place H))) (place : Option (Place H)) (slot slice : ℕ)
+  pub came_home : (places new_places : List (Option (ControlPlace H))) (place : Option (ControlPlace H)) (slot slice : ℕ)
       (half : H) (aside : List H) (desks now : List (Desk H))
       (waiting new_waiting serving : List ℕ) (admitted asked : ℕ)
       → IsSide name slot_of places aside desks waiting serving admitted asked → slot < length places
       → Taken slice half desks now → slot_of (name half) ≡ slot
-      → (old : Option (Place H)) → old ≡ place_at places slot → Welcomes half old place None
+      → (old : Option (ControlPlace H)) → old ≡ place_at places slot → Welcomes half old place None
       → new_waiting ≡ waiting ++ slot ∷ []
       → new_places ≡ set places slot place → IsSide name slot_of new_places aside now new_waiting serving admitted asked
   came_home places new_places place slot slice half aside desks now waiting new_waiting serving admitted asked side
@@ -314,7 +314,7 @@ module _ {H N : Type 0} (name : H → N) (slot_of : N → ℕ) where
       subst (PlaceFits (length desks) asked) was (All-get_or
       (PlaceFits (length desks) asked) places slot None within side.fits) in
       let b = took.before in let n = took.now in
-      subst (λ (l : List (Option (Place H))). IsSide name slot_of l aside now new_waiting serving admitted asked)
+      subst (λ (l : List (Option (ControlPlace H))). IsSide name slot_of l aside now new_waiting serving admitted asked)
       (sym made)
       (set_side name slot_of places place slot aside aside desks now waiting new_waiting serving serving admitted
       admitted asked asked side (record {
@@ -356,7 +356,7 @@ module _ {H N : Type 0} (name : H → N) (slot_of : N → ℕ) where
       }))
 
   -- a half that came home is kept aside
-  pub kept_aside : (places new_places : List (Option (Place H))) (slice : ℕ) (half : H) (aside new_aside : List H)
+  pub kept_aside : (places new_places : List (Option (ControlPlace H))) (slice : ℕ) (half : H) (aside new_aside : List H)
       (desks now : List (Desk H))
       (waiting serving : List ℕ) (admitted asked : ℕ)
       → IsSide name slot_of places aside desks waiting serving admitted asked → Taken slice half desks now
@@ -366,7 +366,7 @@ module _ {H N : Type 0} (name : H → N) (slot_of : N → ℕ) where
   kept_aside places new_places slice half aside new_aside desks now waiting serving admitted asked side took more
       room made =
       let b = took.before in let n = took.now in
-      subst (λ (l : List (Option (Place H))). IsSide name slot_of l new_aside now waiting serving admitted asked)
+      subst (λ (l : List (Option (ControlPlace H))). IsSide name slot_of l new_aside now waiting serving admitted asked)
       (sym made)
       (same_places name slot_of places aside new_aside desks now waiting waiting serving serving admitted asked side
       (λ h.
@@ -383,7 +383,7 @@ module _ {H N : Type 0} (name : H → N) (slot_of : N → ℕ) where
       (let l = ap length more ∙ length-append aside (half ∷ []) in omega arith))
 
   -- a lane home was empty
-  pub none_home : (places : List (Option (Place H))) (slice : ℕ) (aside : List H) (desks now : List (Desk H))
+  pub none_home : (places : List (Option (ControlPlace H))) (slice : ℕ) (aside : List H) (desks now : List (Desk H))
       (waiting serving : List ℕ) (admitted asked : ℕ)
       → IsSide name slot_of places aside desks waiting serving admitted asked → Empty slice desks now
       → IsSide name slot_of places aside now waiting serving admitted asked
@@ -403,7 +403,7 @@ module _ {H N : Type 0} (name : H → N) (slot_of : N → ℕ) where
       side.aside_few
 
   -- a half was admitted
-  pub admitted_side : (hop_of : H → ℕ) (places new_places : List (Option (Place H))) (slot slice hop : ℕ)
+  pub admitted_side : (hop_of : H → ℕ) (places new_places : List (Option (ControlPlace H))) (slot slice hop : ℕ)
       (half : H) (aside : List H)
       (desks now : List (Desk H)) (waiting new_waiting serving : List ℕ) (admitted asked : ℕ)
       → IsSide name slot_of places aside desks waiting serving admitted asked → slot_of (name half) ≡ slot
@@ -414,12 +414,12 @@ module _ {H N : Type 0} (name : H → N) (slot_of : N → ℕ) where
       → IsSide name slot_of new_places aside now new_waiting serving (admitted + 1) (asked + 1)
   admitted_side hop_of places new_places slot slice hop half aside desks now waiting new_waiting serving admitted
       asked side slot_is fresh fits low few admits noted =
-      let grown : List (Option (Place H)) = places ++ replicate admits.more None in
+      let grown : List (Option (ControlPlace H)) = places ++ replicate admits.more None in
       let after = admits.now in
       let free : place_at grown slot ≡ None =
       place_grown name slot_of places admits.more slot ∙ no_place (place_at places slot) fresh in
       let step = (sends_step name desks now hop_of hop slice half after.state admits.sends).0 in
-      subst (λ (l : List (Option (Place H))). IsSide name slot_of l aside now new_waiting serving (admitted + 1)
+      subst (λ (l : List (Option (ControlPlace H))). IsSide name slot_of l aside now new_waiting serving (admitted + 1)
       (asked + 1)) (sym admits.is)
       (set_side name slot_of grown (Some after) slot aside aside desks now waiting new_waiting serving serving
       admitted (admitted + 1) asked (asked + 1)
@@ -451,20 +451,20 @@ module _ {H N : Type 0} (name : H → N) (slot_of : N → ℕ) where
             ap (λ x. cond (is_admitted x) 1 0) free in omega arith;
         aside_few = let a = side.aside_few in omega arith;
       })) where
-        no_place : (x : Option (Place H)) → is_admitted x ≡ false → x ≡ None
+        no_place : (x : Option (ControlPlace H)) → is_admitted x ≡ false → x ≡ None
         no_place None none = refl
         no_place (Some place) none = absurd (true≢false none)
 
   -- a slot that was admitted and doesn't wait leaves room among those that do
-  pub waiting_fewer : (places : List (Option (Place H))) (slot : ℕ) (aside : List H) (desks : List (Desk H))
+  pub waiting_fewer : (places : List (Option (ControlPlace H))) (slot : ℕ) (aside : List H) (desks : List (Desk H))
       (waiting serving : List ℕ) (admitted asked : ℕ)
       → IsSide name slot_of places aside desks waiting serving admitted asked → slot < length places
       → is_admitted (place_at places slot) ≡ true → is_waiting_at (place_at places slot) ≡ false
       → length waiting + length serving < admitted
   waiting_fewer places slot aside desks waiting serving admitted asked side within there idle =
       let one : ℕ → ℕ = λ _. 1 in
-      let f : Option (Place H) → ℕ = wait_weight name slot_of one in
-      let g : Option (Place H) → ℕ = λ x. cond (is_admitted x) 1 0 in
+      let f : Option (ControlPlace H) → ℕ = wait_weight name slot_of one in
+      let g : Option (ControlPlace H) → ℕ = λ x. cond (is_admitted x) 1 0 in
       let a = side.queued one in
       let b = side.counted in
       let c = sum_by-le-sum_by f g (set places slot None) wait_one in
@@ -479,11 +479,11 @@ module _ {H N : Type 0} (name : H → N) (slot_of : N → ℕ) where
         cond_le true = omega arith
         cond_le false = omega arith
 
-        wait_one : (x : Option (Place H)) → wait_weight name slot_of (λ _. 1) x ≤ cond (is_admitted x) 1 0
+        wait_one : (x : Option (ControlPlace H)) → wait_weight name slot_of (λ _. 1) x ≤ cond (is_admitted x) 1 0
         wait_one None = omega arith
         wait_one (Some place) = cond_le (is_waiting place.state)
 
-  pub admitted_within : (places : List (Option (Place H))) (slot : ℕ) → is_admitted (place_at places slot) ≡ true
+  pub admitted_within : (places : List (Option (ControlPlace H))) (slot : ℕ) → is_admitted (place_at places slot) ≡ true
       → slot < length places
   admitted_within places slot there = elim (nat_lt slot (length places)) as (λ b. nat_lt slot (length places) ≡ b
       → slot < length places) [
@@ -493,7 +493,7 @@ module _ {H N : Type 0} (name : H → N) (slot_of : N → ℕ) where
       ] refl
 
   -- the slot that is served next waits
-  pub next_waits : (places : List (Option (Place H))) (slot : ℕ) (aside : List H) (desks : List (Desk H))
+  pub next_waits : (places : List (Option (ControlPlace H))) (slot : ℕ) (aside : List H) (desks : List (Desk H))
       (waiting serving new_serving : List ℕ)
       (admitted asked : ℕ) → IsSide name slot_of places aside desks waiting serving admitted asked
       → serving ≡ new_serving ++ slot ∷ []
@@ -505,7 +505,7 @@ module _ {H N : Type 0} (name : H → N) (slot_of : N → ℕ) where
       let c : on slot slot ≡ 1 = ap (λ t. cond t 1 0) (eq-eqb slot slot refl) in omega arith)
 
   -- a slot moved
-  pub gone_side : (places new_places : List (Option (Place H))) (slot slice until : ℕ) (newly : Bool)
+  pub gone_side : (places new_places : List (Option (ControlPlace H))) (slot slice until : ℕ) (newly : Bool)
       (aside : List H) (desks now : List (Desk H))
       (waiting new_waiting serving : List ℕ) (admitted asked : ℕ)
       → IsSide name slot_of places aside desks waiting serving admitted asked → slice < length desks → asked < 2 ^ 48
@@ -523,7 +523,7 @@ module _ {H N : Type 0} (name : H → N) (slot_of : N → ℕ) where
       (place_at places slot) place fits there moves.3 in
       let is : place_at new_places slot ≡ place = ap (λ l. place_at l slot) moves.2
       ∙ get_or-set_same places slot place None within in (
-        subst (λ (l : List (Option (Place H))). IsSide name slot_of l aside now new_waiting serving admitted (asked
+        subst (λ (l : List (Option (ControlPlace H))). IsSide name slot_of l aside now new_waiting serving admitted (asked
             + 1)) (sym moves.2)
             (stepped_side 2 places place slot aside desks now waiting new_waiting serving serving admitted asked
             (asked + 1) side within step.0 step.1 (moved_own desks now slot slice until (place_at places slot) place
@@ -536,7 +536,7 @@ module _ {H N : Type 0} (name : H → N) (slot_of : N → ℕ) where
       )
 
   -- the slot that is served next was served
-  pub served_side : (hop_of : H → ℕ) (places new_places : List (Option (Place H))) (slot : ℕ) (waits : Bool)
+  pub served_side : (hop_of : H → ℕ) (places new_places : List (Option (ControlPlace H))) (slot : ℕ) (waits : Bool)
       (aside : List H) (desks now : List (Desk H))
       (waiting new_waiting serving new_serving : List ℕ) (admitted asked : ℕ)
       → IsSide name slot_of places aside desks waiting serving admitted asked → serving ≡ new_serving ++ slot ∷ []
@@ -556,7 +556,7 @@ module _ {H N : Type 0} (name : H → N) (slot_of : N → ℕ) where
       (place_at places slot) place true_here fits served.3 in
       let is : place_at new_places slot ≡ place = ap (λ l. place_at l slot) served.1
       ∙ get_or-set_same places slot place None within in (
-        subst (λ (l : List (Option (Place H))). IsSide name slot_of l aside now new_waiting new_serving admitted
+        subst (λ (l : List (Option (ControlPlace H))). IsSide name slot_of l aside now new_waiting new_serving admitted
             asked) (sym served.1)
             (stepped_side 0 places place slot aside desks now waiting new_waiting serving new_serving admitted
             asked asked side within step.0 step.2 (served_own hop_of desks now slot (place_at places slot) place
@@ -588,7 +588,7 @@ module _ {H N : Type 0} (name : H → N) (slot_of : N → ℕ) where
       )
 
 -- a place that waits newly didn't wait
-pub was_idle : {H : Type 0} (newly : Bool) (old new : Option (Place H)) → newly ≡ true → NewlyWaits newly old new
+pub was_idle : {H : Type 0} (newly : Bool) (old new : Option (ControlPlace H)) → newly ≡ true → NewlyWaits newly old new
     → is_waiting_at old ≡ false
 was_idle newly old new is waits = elim (is_waiting_at old) as (λ b. is_waiting_at old ≡ b → is_waiting_at old ≡ false) [
   | false ↦ λ e. e
@@ -603,7 +603,7 @@ was_idle newly old new is waits = elim (is_waiting_at old) as (λ b. is_waiting_
   at_most false = omega arith
 
 -- a place that a half came home to was admitted and didn't wait
-pub leaving_idle : {H : Type 0} (half : H) (old new : Option (Place H)) → Welcomes half old new None
+pub leaving_idle : {H : Type 0} (half : H) (old new : Option (ControlPlace H)) → Welcomes half old new None
     → (is_admitted old ≡ true) × (is_waiting_at old ≡ false)
 leaving_idle half old new welcomes =
     let homes = welcomes.6 in
@@ -611,7 +611,7 @@ leaving_idle half old new welcomes =
 
 -- a half was admitted at a list of places that had grown
 abbrev pub admits_from : {H N : Type 0} (name : H → N) (hop_of : H
-    → ℕ) (slot slice hop : ℕ) (half : H) (places mid new : List (Option (Place H))) (now : Place H)
+    → ℕ) (slot slice hop : ℕ) (half : H) (places mid new : List (Option (ControlPlace H))) (now : ControlPlace H)
     (desks after : List (Desk H)) → Grown places mid → slot < length mid → new ≡ set mid slot (Some now)
     → now.hop ≡ hop → now.admitted.value ≡ half
     → Sends name hop_of hop slice half now.state desks after
@@ -626,7 +626,7 @@ admits_from name hop_of slot slice hop half places mid new now desks after grown
   sends = sends;
 }
 
-pub still_free : {H N : Type 0} (name : H → N) (slot_of : N → ℕ) (places mid : List (Option (Place H))) (slot : ℕ)
+pub still_free : {H N : Type 0} (name : H → N) (slot_of : N → ℕ) (places mid : List (Option (ControlPlace H))) (slot : ℕ)
     → Grown places mid
     → is_admitted (place_at places slot) ≡ false → is_admitted (place_at mid slot) ≡ false
 still_free name slot_of places mid slot grown fresh =

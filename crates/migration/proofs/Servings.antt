@@ -9,8 +9,8 @@ use Rattle.std.proofs.Math.Seq.{map-set_same}
 use borrow.Author.Tests.{eqb-true, eqb-false}
 use Rattle.worker_core.specs.Desks.{Desk}
 use Rattle.worker_core.specs.Workers.{Lanes}
-use Rattle.migration.specs.declared.place.Place.{Place}
-use Rattle.migration.specs.declared.place.State.TheVariants.{Front, Placed, Recall, Leaving}
+use Rattle.migration.specs.declared.place.ControlPlace.{ControlPlace}
+use Rattle.migration.specs.declared.place.ControlState.TheVariants.{Front, Placed, Recall, Leaving}
 use Rattle.lane_core.specs.declared.ends.Receiver.{Receiver}
 use Rattle.lane_core.specs.Ends.{taken, empty_answers}
 use Rattle.worker_core.specs.Desks.{fulls_at, homes_of, empties_at}
@@ -40,7 +40,7 @@ module _ {N : Type 0} where
       → roll names hops lanes admitted asked ≡ roll was were before admitted asked
   roll_same names was hops were lanes before admitted asked n h l i = roll (n i) (h i) (l i) admitted asked
 
-module _ {H N : Type 0} (name : H → N) (places : List (Option (Place H))) (place : Option (Place H)) (slot : ℕ) where
+module _ {H N : Type 0} (name : H → N) (places : List (Option (ControlPlace H))) (place : Option (ControlPlace H)) (slot : ℕ) where
   pub names_set : name_at name place ≡ name_at name (place_at places slot)
       → names_of name (set places slot place) ≡ names_of name places
   names_set same = map-set_same (name_at name) places slot place None same
@@ -48,7 +48,7 @@ module _ {H N : Type 0} (name : H → N) (places : List (Option (Place H))) (pla
   pub hops_set : hop_at place ≡ hop_at (place_at places slot) → hops_of (set places slot place) ≡ hops_of places
   hops_set same = map-set_same hop_at places slot place None same
 
-  pub welcomed_name : (half : H) (old : Option (Place H)) → old ≡ place_at places slot → Welcomes half old place None
+  pub welcomed_name : (half : H) (old : Option (ControlPlace H)) → old ≡ place_at places slot → Welcomes half old place None
       → (name_at name place ≡ name_at name (place_at places slot)) × (hop_at place ≡ hop_at (place_at places slot))
   welcomed_name half old same welcomes =
       let was : place_at places slot ≡ Some welcomes.0 = sym same ∙ welcomes.2 in (
@@ -57,11 +57,11 @@ module _ {H N : Type 0} (name : H → N) (places : List (Option (Place H))) (pla
       )
 
 -- a slot that waits for a slice is still to be served, or met a full lane there
-abbrev pub Serving : {H : Type 0} → List ℕ → List (Option (Place H)) → List (Desk H) → List (Desk H) → Type 0
+abbrev pub Serving : {H : Type 0} → List ℕ → List (Option (ControlPlace H)) → List (Desk H) → List (Desk H) → Type 0
 Serving serving places desks now = (slot slice : ℕ) → waits_at (place_at places slot) ≡ Some slice
     → (0 < sum_by (on slot) serving) ⊎ Rises (fulls_at desks slice) (fulls_at now slice)
 
-waits_true : {H : Type 0} (place : Option (Place H)) (slice : ℕ) → waits_at place ≡ Some slice
+waits_true : {H : Type 0} (place : Option (ControlPlace H)) (slice : ℕ) → waits_at place ≡ Some slice
     → is_waiting_at place ≡ true
 waits_true None slice waits = absurd (let no : ⊥ = cc in no)
 waits_true (Some place) slice waits = by_state place.state waits where
@@ -73,12 +73,12 @@ waits_true (Some place) slice waits = by_state place.state waits where
 
 module _ {H N : Type 0} (name : H → N) (slot_of : N → ℕ) where
   -- all that wait are to be served
-  pub serving_all : (places : List (Option (Place H))) (aside : List H) (desks : List (Desk H))
+  pub serving_all : (places : List (Option (ControlPlace H))) (aside : List H) (desks : List (Desk H))
       (waiting serving : List ℕ) (admitted asked : ℕ)
       → IsSide name slot_of places aside desks waiting serving admitted asked → waiting ≡ []
       → Serving serving places desks desks
   serving_all places aside desks waiting serving admitted asked side none slot slice waits =
-      let f : Option (Place H) → ℕ = wait_weight name slot_of (on slot) in
+      let f : Option (ControlPlace H) → ℕ = wait_weight name slot_of (on slot) in
       let true_here = waits_true (place_at places slot) slice waits in
       let within = waiting_within name slot_of places slot true_here in
       let a = get_or-le-sum_by f places slot None within in
@@ -91,7 +91,7 @@ module _ {H N : Type 0} (name : H → N) (slot_of : N → ℕ) where
       inl (omega arith)
 
 module _ {H N : Type 0} (name : H → N) (hop_of : H → ℕ) where
-  pub serving_more : (serving new_serving : List ℕ) (places new_places : List (Option (Place H)))
+  pub serving_more : (serving new_serving : List ℕ) (places new_places : List (Option (ControlPlace H)))
       (first desks now : List (Desk H))
       → ((slice : ℕ) → (fulls_at desks slice ≡ fulls_at first slice)
       ⊎ Rises (fulls_at first slice) (fulls_at desks slice))
@@ -132,7 +132,7 @@ module _ {H : Type 0} where
     | inr again ↦ inr (then_rises (fulls_at first slice) (fulls_at desks slice) (fulls_at now slice) earlier again)
   ]
 
-  pub serving_none : (serving : List ℕ) (places : List (Option (Place H))) (desks now : List (Desk H))
+  pub serving_none : (serving : List ℕ) (places : List (Option (ControlPlace H))) (desks now : List (Desk H))
       → serving ≡ [] → Serving serving places desks now
       → AllMetFull places desks now
   serving_none serving places desks now none so_far slot slice waits = elim (so_far slot slice waits) [
@@ -140,7 +140,7 @@ module _ {H : Type 0} where
     | inr rose ↦ rose
   ]
 
-  pub met_full_since : (places : List (Option (Place H))) (first desks now : List (Desk H))
+  pub met_full_since : (places : List (Option (ControlPlace H))) (first desks now : List (Desk H))
       → ((slice : ℕ) → fulls_at desks slice ≡ fulls_at first slice)
       → AllMetFull places desks now → AllMetFull places first now
   met_full_since places first desks now same met slot slice waits =

@@ -12,8 +12,8 @@ use Rattle.worker_core.specs.Desks.{Desk}
 use Rattle.worker_core.specs.declared.order.Order.{Order}
 use Rattle.worker_core.specs.Names.{weight}
 use Rattle.worker_core.proofs.Arrivals.{sum_by-through}
-use Rattle.migration.specs.declared.place.Place.{Place}
-use Rattle.migration.specs.declared.place.State.TheVariants.{Front}
+use Rattle.migration.specs.declared.place.ControlPlace.{ControlPlace}
+use Rattle.migration.specs.declared.place.ControlState.TheVariants.{Front}
 use Rattle.migration.specs.Desks.{sent_weight, home_weight}
 use Rattle.worker_core.specs.Desks.{order_count}
 use Rattle.migration.specs.Places.{place_at, pending_at, is_admitted, is_waiting_at, PlaceFits, name_at, names_of}
@@ -35,8 +35,8 @@ same_default (x ∷ xs) zero d e within = refl
 same_default (x ∷ xs) (suc k) d e within = same_default xs k d e (omega arith)
 
 -- a half that came home, and the places
-pub welcomed_at : {H : Type 0} (half : H) (slot : ℕ) (places new : List (Option (Place H)))
-    (place : Option (Place H)) (back : Option H)
+pub welcomed_at : {H : Type 0} (half : H) (slot : ℕ) (places new : List (Option (ControlPlace H)))
+    (place : Option (ControlPlace H)) (back : Option H)
     → slot < length places → new ≡ set places slot place → Welcomes half (place_at places slot) place back
     → WelcomesAt half slot places new back
 welcomed_at half slot places new place None within is welcomes = (place, within, is, welcomes)
@@ -45,24 +45,24 @@ welcomed_at half slot places new place (Some back) within is welcomes =
 
 module _ {H N : Type 0} (name : H → N) (slot_of : N → ℕ) where
   -- each place has a name of its slot
-  abbrev pub AtSlot : List (Option (Place H)) → Type 0
+  abbrev pub AtSlot : List (Option (ControlPlace H)) → Type 0
   AtSlot places = (slot : ℕ) → slot_at slot_of slot (name_at name (place_at places slot)) ≡ slot
 
-  pub at_slot : (places : List (Option (Place H))) → BySlot slot_of (names_of name places) → AtSlot places
+  pub at_slot : (places : List (Option (ControlPlace H))) → BySlot slot_of (names_of name places) → AtSlot places
   at_slot places slots slot = ap (slot_at slot_of slot) (sym (index_map (name_at name) places slot None)) ∙ slots slot
 
-  pub by_slot : (places : List (Option (Place H))) → AtSlot places → BySlot slot_of (names_of name places)
+  pub by_slot : (places : List (Option (ControlPlace H))) → AtSlot places → BySlot slot_of (names_of name places)
   by_slot places slots slot = ap (slot_at slot_of slot) (index_map (name_at name) places slot None) ∙ slots slot
 
   -- what a place weighs that stands at its slot
-  pub wait_weight_is : (w : ℕ → ℕ) (slot : ℕ) (place : Option (Place H))
+  pub wait_weight_is : (w : ℕ → ℕ) (slot : ℕ) (place : Option (ControlPlace H))
       → slot_at slot_of slot (name_at name place) ≡ slot
       → wait_weight name slot_of w place ≡ cond (is_waiting_at place) (w slot) 0
   wait_weight_is w slot None at = refl
   wait_weight_is w slot (Some place) at = ap (λ n. cond (is_waiting_at (Some place)) (w n) 0) at
 
   -- what one step at a place, the desks and the lists may change
-  pub record Change (places : List (Option (Place H))) (place : Option (Place H)) (slot : ℕ)
+  pub record Change (places : List (Option (ControlPlace H))) (place : Option (ControlPlace H)) (slot : ℕ)
       (aside new_aside : List H) (desks now : List (Desk H))
       (waiting new_waiting serving new_serving : List ℕ) (admitted new_admitted asked new_asked : ℕ) : Type 0 where
     pub within : slot < length places
@@ -84,11 +84,11 @@ module _ {H N : Type 0} (name : H → N) (slot_of : N → ℕ) where
     pub counted : new_admitted + cond (is_admitted (place_at places slot)) 1 0 ≡ admitted + cond (is_admitted place) 1 0
     pub aside_few : length new_aside ≤ new_admitted
 
-  fits_later : (n asked later : ℕ) → asked ≤ later → (place : Option (Place H)) → PlaceFits n asked place
+  fits_later : (n asked later : ℕ) → asked ≤ later → (place : Option (ControlPlace H)) → PlaceFits n asked place
       → PlaceFits n later place
   fits_later n asked later more place fits = (fits.0, fits.1, (let e = fits.2 in omega arith))
 
-  pub set_side : (places : List (Option (Place H))) (place : Option (Place H)) (slot : ℕ)
+  pub set_side : (places : List (Option (ControlPlace H))) (place : Option (ControlPlace H)) (slot : ℕ)
       (aside new_aside : List H) (desks now : List (Desk H))
       (waiting new_waiting serving new_serving : List ℕ) (admitted new_admitted asked new_asked : ℕ)
       → IsSide name slot_of places aside desks waiting serving admitted asked
@@ -97,11 +97,11 @@ module _ {H N : Type 0} (name : H → N) (slot_of : N → ℕ) where
       → IsSide name slot_of (set places slot place) new_aside now new_waiting new_serving new_admitted new_asked
   set_side places place slot aside new_aside desks now waiting new_waiting serving new_serving admitted
       new_admitted asked new_asked side change =
-      let new : List (Option (Place H)) = set places slot place in
+      let new : List (Option (ControlPlace H)) = set places slot place in
       let slots = at_slot places side.slots in
       record {
         balanced = λ h.
-            let named : Option (Place H) → ℕ = λ x. weight_at h (name_at name x) in
+            let named : Option (ControlPlace H) → ℕ = λ x. weight_at h (name_at name x) in
             let a = side.balanced h in
             let b = change.balance h in
             let c = sum_by-set (front_at name h) places slot place None change.within in
@@ -138,13 +138,13 @@ module _ {H N : Type 0} (name : H → N) (slot_of : N → ℕ) where
             let c = sum_by-set (pending_at {H = H}) places slot place None change.within in omega arith;
         asked_few = change.few;
         counted = let a = side.counted in let b = change.counted in
-            let one : Option (Place H) → ℕ = λ x. cond (is_admitted x) 1 0 in
+            let one : Option (ControlPlace H) → ℕ = λ x. cond (is_admitted x) 1 0 in
             let c = sum_by-set one places slot place None change.within in omega arith;
         aside_few = change.aside_few;
       }
 
   -- no place changed
-  pub same_places : (places : List (Option (Place H))) (aside new_aside : List H) (desks now : List (Desk H))
+  pub same_places : (places : List (Option (ControlPlace H))) (aside new_aside : List H) (desks now : List (Desk H))
       (waiting new_waiting serving new_serving : List ℕ) (admitted asked : ℕ)
       → IsSide name slot_of places aside desks waiting serving admitted asked
       → ((h : N → ℕ) → weight name h new_aside + sum_by (sent_weight name h) now + sum_by (home_weight name h) desks
@@ -167,18 +167,18 @@ module _ {H N : Type 0} (name : H → N) (slot_of : N → ℕ) where
         aside_few = few;
       }
 
-  place_none : (more k : ℕ) → get_or {A = Option (Place H)} (replicate more None) k None ≡ None
+  place_none : (more k : ℕ) → get_or {A = Option (ControlPlace H)} (replicate more None) k None ≡ None
   place_none zero k = refl
   place_none (suc more) zero = refl
   place_none (suc more) (suc k) = place_none more k
 
-  pub place_grown : (places : List (Option (Place H))) (more k : ℕ)
+  pub place_grown : (places : List (Option (ControlPlace H))) (more k : ℕ)
       → place_at (places ++ replicate more None) k ≡ place_at places k
   place_grown [] more k = place_none more k
   place_grown (place ∷ places) more zero = refl
   place_grown (place ∷ places) more (suc k) = place_grown places more k
 
-  grown_sum : (f : Option (Place H) → ℕ) (places : List (Option (Place H))) (more : ℕ) → f None ≡ 0
+  grown_sum : (f : Option (ControlPlace H) → ℕ) (places : List (Option (ControlPlace H))) (more : ℕ) → f None ≡ 0
       → sum_by f (places ++ replicate more None) ≡ sum_by f places
   grown_sum f places more zero_there =
       let a = sum_by-append f places (replicate more None) in
@@ -186,15 +186,15 @@ module _ {H N : Type 0} (name : H → N) (slot_of : N → ℕ) where
       let c : more * f None ≡ 0 = ap (λ n. more * n) zero_there ∙ (omega arith) in omega arith
 
   -- some free places more
-  pub grown_side : (places : List (Option (Place H))) (more : ℕ) (aside : List H) (desks : List (Desk H))
+  pub grown_side : (places : List (Option (ControlPlace H))) (more : ℕ) (aside : List H) (desks : List (Desk H))
       (waiting serving : List ℕ) (admitted asked : ℕ)
       → IsSide name slot_of places aside desks waiting serving admitted asked
       → IsSide name slot_of (places ++ replicate more None) aside desks waiting serving admitted asked
   grown_side places more aside desks waiting serving admitted asked side =
-      let new : List (Option (Place H)) = places ++ replicate more None in
+      let new : List (Option (ControlPlace H)) = places ++ replicate more None in
       record {
         balanced = λ h.
-            let named : Option (Place H) → ℕ = λ x. weight_at h (name_at name x) in
+            let named : Option (ControlPlace H) → ℕ = λ x. weight_at h (name_at name x) in
             let a = side.balanced h in
             let c = grown_sum (front_at name h) places more refl in
             let d = grown_sum named places more refl in
@@ -210,21 +210,21 @@ module _ {H N : Type 0} (name : H → N) (slot_of : N → ℕ) where
             (All-replicate (PlaceFits (length desks) asked) more None (omega arith, omega arith, omega arith));
         few = let a = side.few in let c = grown_sum (pending_at {H = H}) places more refl in omega arith;
         asked_few = side.asked_few;
-        counted = let one : Option (Place H) → ℕ = λ x. cond (is_admitted x) 1 0 in
+        counted = let one : Option (ControlPlace H) → ℕ = λ x. cond (is_admitted x) 1 0 in
             let a = side.counted in let c = grown_sum one places more refl in omega arith;
         aside_few = side.aside_few;
       }
 
 module _ {H N : Type 0} (name : H → N) (slot_of : N → ℕ) where
   -- a half at the front is of its slot, also under another state of the same name
-  pub own_front : (slot : ℕ) (place : Option (Place H)) (before : Place H) (half told : H) (to : ℕ)
+  pub own_front : (slot : ℕ) (place : Option (ControlPlace H)) (before : ControlPlace H) (half told : H) (to : ℕ)
       → IsOwnAt name slot_of slot place → place ≡ Some before → before.state ≡ Front half to
       → name told ≡ name half → slot_of (name told) ≡ slot
   own_front slot place before half told to own is front named =
       ap slot_of named ∙ subst (IsOwn name slot_of slot) front (subst (IsOwnAt name slot_of slot) is own)
 
   -- what a place of a side has fits
-  pub place_fits : (places : List (Option (Place H))) (slot : ℕ) (aside : List H) (desks : List (Desk H))
+  pub place_fits : (places : List (Option (ControlPlace H))) (slot : ℕ) (aside : List H) (desks : List (Desk H))
       (waiting serving : List ℕ) (admitted asked : ℕ)
       → IsSide name slot_of places aside desks waiting serving admitted asked → slot < length places
       → PlaceFits (length desks) (2 ^ 48) (place_at places slot)
@@ -233,13 +233,13 @@ module _ {H N : Type 0} (name : H → N) (slot_of : N → ℕ) where
       let e = side.asked_few in (f.0, f.1, (let g = f.2 in omega arith))
 
   -- room was made
-  pub roomy_side : (places new : List (Option (Place H))) (aside new_aside : List H) (desks : List (Desk H))
+  pub roomy_side : (places new : List (Option (ControlPlace H))) (aside new_aside : List H) (desks : List (Desk H))
       (waiting new_waiting serving new_serving : List ℕ) (admitted asked : ℕ)
       → IsSide name slot_of places aside desks waiting serving admitted asked
       → Grown places new → new_aside ≡ aside → new_waiting ≡ waiting → new_serving ≡ serving
       → IsSide name slot_of new new_aside desks new_waiting new_serving admitted asked
   roomy_side places new aside new_aside desks waiting new_waiting serving new_serving admitted asked side grown a w s =
-      subst (λ (p : List (Option (Place H)) × List H × List ℕ
+      subst (λ (p : List (Option (ControlPlace H)) × List H × List ℕ
       × List ℕ). IsSide name slot_of p.0 p.1 desks p.2 p.3 admitted asked)
       (λ i. (sym grown.1 i, sym a i, sym w i, sym s i))
       (grown_side name slot_of places grown.0 aside desks waiting serving admitted asked side)

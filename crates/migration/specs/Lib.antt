@@ -5,3 +5,14 @@ pub mod Pumps
 pub mod Sides
 pub mod Steps
 pub mod Words
+pub mod DataDesks
+pub mod DataDue
+pub mod DataKeeps
+pub mod DataLeavers
+pub mod DataPlaces
+pub mod DataPumps
+pub mod DataQueues
+pub mod DataSides
+pub mod DataStays
+pub mod DataSteps
+pub mod DataWords

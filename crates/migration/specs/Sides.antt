@@ -4,7 +4,7 @@ use Rattle.std.specs.Prelude.{slice_index_or, count_by, Option, Some, None}
 use Rattle.std.specs.List.{sum_by, All}
 use Rattle.worker_core.specs.Desks.{Desk}
 use Rattle.worker_core.specs.Names.{weight}
-use Rattle.migration.specs.declared.place.Place.{Place}
+use Rattle.migration.specs.declared.place.ControlPlace.{ControlPlace}
 use Rattle.migration.specs.Desks.{sent_weight, home_weight}
 use Rattle.worker_core.specs.Counts.{Rises}
 use Rattle.worker_core.specs.Desks.{order_count, fulls_at}
@@ -13,7 +13,7 @@ use Rattle.migration.specs.Places.{waits_at}
 use Rattle.migration.specs.Places.{PlaceFits, IsOwnAt}
 
 -- each name that was admitted or came home is at the front, is kept aside there, or was sent to a slice, as often
-abbrev pub Balanced : {H N : Type 0} → (H → N) → List (Option (Place H)) → List H → List (Desk H) → Type 0
+abbrev pub Balanced : {H N : Type 0} → (H → N) → List (Option (ControlPlace H)) → List H → List (Desk H) → Type 0
 Balanced {H} {N} name places aside desks =
     (h : N → ℕ) → sum_by (front_at name h) places + weight name h aside + sum_by (sent_weight name h) desks
     ≡ sum_by (weight_at h) (names_of name places) + sum_by (home_weight name h) desks
@@ -30,7 +30,7 @@ BySlot slot_of names = (slot : ℕ) → slot_at slot_of slot (slice_index_or nam
 -- what a side keeps: each name in one place, each at its slot, a half at the front at its own, the slots with an order
 -- to give in one of two lists, and few enough orders
 pub record IsSide {H N : Type 0} (name : H → N) (slot_of : N
-    → ℕ) (places : List (Option (Place H))) (aside : List H) (desks : List (Desk H))
+    → ℕ) (places : List (Option (ControlPlace H))) (aside : List H) (desks : List (Desk H))
     (waiting serving : List ℕ) (admitted asked : ℕ) : Type 0 where
   pub balanced : Balanced name places aside desks
   pub slots : BySlot slot_of (names_of name places)
@@ -43,6 +43,6 @@ pub record IsSide {H N : Type 0} (name : H → N) (slot_of : N
   pub aside_few : length aside ≤ admitted
 
 -- each slot that still waits for a slice met a full lane of orders there
-abbrev pub AllMetFull : {H : Type 0} → List (Option (Place H)) → List (Desk H) → List (Desk H) → Type 0
+abbrev pub AllMetFull : {H : Type 0} → List (Option (ControlPlace H)) → List (Desk H) → List (Desk H) → Type 0
 AllMetFull places old new =
     (slot slice : ℕ) → waits_at (place_at places slot) ≡ Some slice → Rises (fulls_at old slice) (fulls_at new slice)

@@ -4,7 +4,7 @@ use Rattle.std.specs.Prelude.{◌∷◌, ◌++◌, Option, Some}
 use Rattle.worker_core.specs.Desks.{Desk}
 use Rattle.worker_core.specs.declared.traveller.Traveller.{Ghosts}
 use Rattle.worker_core.specs.Workers.{Lanes}
-use Rattle.migration.specs.declared.place.Place.{Place}
+use Rattle.migration.specs.declared.place.ControlPlace.{ControlPlace}
 use Rattle.migration.specs.declared.side.Side.{Side}
 use Rattle.worker_core.specs.Desks.{lanes_of, fulls_at}
 use Rattle.migration.specs.Places.{place_at, names_of, hops_of, waits_at}
@@ -23,7 +23,7 @@ module _ {H N : Type 0} {g : Ghosts H N} where
   abbrev pub desks_of : Side H N g → List (Desk H)
   desks_of side = side.desks.items
 
-  abbrev pub places_of : Side H N g → List (Option (Place H))
+  abbrev pub places_of : Side H N g → List (Option (ControlPlace H))
   places_of side = side.places.items
 
   -- the halves that came home though nobody had told them to
@@ -53,7 +53,7 @@ module _ {H N : Type 0} {g : Ghosts H N} where
 
 -- the order of the slot that is served next was offered
 pub record ServedNext {H N : Type 0} (name : H → N) (hop_of : H → ℕ) (serving new_serving : List ℕ)
-    (places new_places : List (Option (Place H))) (old new : List (Desk H)) : Type 0 where
+    (places new_places : List (Option (ControlPlace H))) (old new : List (Desk H)) : Type 0 where
   pub slot : ℕ
   pub waits : Bool
   pub next : serving ≡ new_serving ++ slot ∷ []

@@ -14,7 +14,7 @@ use std::snapshot::Snapshot;
 ///                      the half came home
 /// ```
 #[derive(Drop)]
-pub enum State<H> {
+pub enum ControlState<H> {
     /// The half is here, and is bound for a slice.
     Front {
         half: H,
@@ -39,10 +39,10 @@ pub enum State<H> {
 
 /// An admitted slot.
 #[derive(Drop)]
-pub struct Place<H> {
+pub struct ControlPlace<H> {
     /// How often the slot moved.
     pub hop: u64,
-    pub state: State<H>,
+    pub state: ControlState<H>,
     /// The half as it was admitted, for clauses alone.
     pub admitted: Snapshot<H>,
 }

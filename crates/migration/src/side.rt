@@ -5,7 +5,7 @@ ghost use Rattle.worker_core.specs.Workers.{IsNewDesk};
 ghost use Rattle.migration.specs.Places.{names_of};
 ghost use Rattle.migration.specs.Sides.{Balanced, BySlot, IsSide};
 
-use crate::place::Place;
+use crate::place::ControlPlace;
 use crate::steps;
 use lane_core::NoMemory;
 use pc_base::{SliceNo, Slot};
@@ -22,7 +22,7 @@ const HOME: usize = 64;
 pub struct Side<H: Traveller> {
     desks: Vec<Desk<H>>,
     /// By slot.
-    places: Vec<Option<Place<H>>>,
+    places: Vec<Option<ControlPlace<H>>>,
     /// Halves that came home though nobody had told them to.
     aside: Vec<H>,
     /// The slots that have an order to give, and while `pump` gives orders those it has looked at.
@@ -43,7 +43,7 @@ pub struct Side<H: Traveller> {
 pub struct SideEnd<H: Traveller> {
     pub desks: Vec<Desk<H>>,
     /// By slot.
-    pub places: Vec<Option<Place<H>>>,
+    pub places: Vec<Option<ControlPlace<H>>>,
     pub aside: Vec<H>,
     pub ghost balanced: { Balanced H.name places.items aside.items desks.items },
     pub ghost slots: { BySlot H.slot_of (names_of H.name places.items) },
@@ -57,7 +57,7 @@ impl<H: Traveller> Side<H> {
     ghost use Rattle.migration.specs.Sides.{AllMetFull};
     ghost use Rattle.worker_core.specs.Homes.{HomeEnded};
     ghost use Rattle.migration.specs.Passes.{Passes};
-    ghost use Rattle.migration.specs.Pumps.{TakesHome, LinedUp, ServesEach, PumpsBySlot};
+    ghost use Rattle.migration.specs.Pumps.{TakesHome, LinedUp, NoneWaits, ServesEach, PumpsBySlot};
     ghost use Rattle.migration.specs.Words.{desks_of, places_of, aside_of, waiting_of, serving_of, admitted_of};
     ghost use Rattle.migration.specs.Words.{asked_of};
     ghost use Rattle.migration.specs.Words.{roll_of, ServedNext};
@@ -108,7 +108,7 @@ impl<H: Traveller> Side<H> {
         let admitted = Snapshot::of(&half);
         let state = steps::send(rt, &mut self.desks, half, slice, hop);
         let waits = steps::waits(&state);
-        let place = Place {
+        let place = ControlPlace {
             hop,
             state,
             admitted,
@@ -137,8 +137,9 @@ impl<H: Traveller> Side<H> {
     }
 
     /// Takes home what came, at most 64 halves of each slice, and then offers each order that waits
-    /// once, by slot. What finds no place waits on.
-    pub fn pump<R: Wait>(&mut self, rt: &R)
+    /// once, by slot. What finds no place waits on. It answers whether an order was offered: slots are looked at only
+    /// where a half came home, or an order was refused before.
+    pub fn pump<R: Wait>(&mut self, rt: &R) -> bool
         ensures roll { roll_of H.name self.new ≡ roll_of H.name self.old }
         ensures passed { Passes (λ half. H.slot_of (H.name half)) H.hop_of (places_of self.old)
             (places_of self.new) (aside_of self.old) (aside_of self.new)
@@ -149,10 +150,24 @@ impl<H: Traveller> Side<H> {
         ensures home { (slice : ℕ) → slice < length (desks_of self.old)
             → HomeEnded (length (aside_of self.new)) (admitted_of self.new) slice (desks_of self.old)
             (desks_of self.new) }
+
+        // Where none was offered, each half is where it was.
+        ensures still { result ≡ false → places_of self.new ≡ places_of self.old }
     {
         self.take_all(rt);
+        if self.rests() {
+            return false;
+        }
         self.line_up();
         self.serve_all(rt);
+        true
+    }
+
+    // Whether no slot has an order to give.
+    fn rests(&self) -> bool
+        ensures { result ≡ true → (waiting_of self.now ≡ []) × (serving_of self.now ≡ []) }
+    {
+        self.waiting.is_empty() && self.serving.is_empty()
     }
 
     /// Whether the half of the slot was sent to a slice and nothing else is asked of it.
@@ -242,6 +257,8 @@ impl<H: Traveller> Side<H> {
             → HomeEnded (length (aside_of self.new)) (admitted_of self.new) slice (desks_of self.old)
             (desks_of self.new) }
         ensures fulls { (slice : ℕ) → fulls_at (desks_of self.new) slice ≡ fulls_at (desks_of self.old) slice }
+        ensures still { NoneWaits (waiting_of self.old) (waiting_of self.new) (places_of self.old)
+            (places_of self.new) }
     {
         for slice in 0..self.desks.len() {
             self.take_from(rt, slice);
@@ -259,6 +276,8 @@ impl<H: Traveller> Side<H> {
         ensures len { vec_len self.new.desks ≡ vec_len self.old.desks }
         ensures took { TookFrom slice (admitted_of self.new) (aside_of self.old) (aside_of self.new)
             (desks_of self.old) (desks_of self.new) }
+        ensures still { NoneWaits (waiting_of self.old) (waiting_of self.new) (places_of self.old)
+            (places_of self.new) }
     {
         for _ in 0..HOME {
             if !self.take_one(rt, slice) {
@@ -278,6 +297,8 @@ impl<H: Traveller> Side<H> {
         ensures len { vec_len self.new.desks ≡ vec_len self.old.desks }
         ensures took { TookOne result slice (admitted_of self.new) (aside_of self.old) (aside_of self.new)
             (desks_of self.old) (desks_of self.new) }
+        ensures still { NoneWaits (waiting_of self.old) (waiting_of self.new) (places_of self.old)
+            (places_of self.new) }
     {
         if self.aside.len() >= self.admitted {
             return false;

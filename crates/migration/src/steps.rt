@@ -10,7 +10,7 @@ ghost use Rattle.migration.specs.Steps.{Sends, Recalls, Serves, PlaceServed, Ser
 ghost use Rattle.migration.specs.Steps.{NewlyWaits};
 ghost use Rattle.migration.specs.Steps.{Homes, Welcomes, WelcomesAt};
 
-use crate::place::{Place, State};
+use crate::place::{ControlPlace, ControlState};
 use lane_core::Full;
 use pc_base::{SliceNo, Slot};
 use std::sync::Wait;
@@ -23,7 +23,7 @@ pub fn send<H: Traveller, R: Wait>(
     mut half: H,
     to: SliceNo,
     hop: u64,
-) -> State<H>
+) -> ControlState<H>
     requires within { to < vec_len desks.old }
     requires few { sum_by order_count desks.old.items < 2 ^ 50 }
     requires hop { hop ≤ 2 ^ 61 }
@@ -32,9 +32,9 @@ pub fn send<H: Traveller, R: Wait>(
 {
     half.arrive(hop);
     match offer(rt, desks, to, Order::Arrive(half)) {
-        Ok(()) => State::Placed { at: to },
+        Ok(()) => ControlState::Placed { at: to },
         Err(Full(order)) => match order {
-            Order::Arrive(half) => State::Front { half, to },
+            Order::Arrive(half) => ControlState::Front { half, to },
             Order::Leave { .. } => unreachable!(),
         },
     }
@@ -48,51 +48,51 @@ fn recall<H: Traveller, R: Wait>(
     at: SliceNo,
     until: u64,
     to: SliceNo,
-) -> State<H>
+) -> ControlState<H>
     requires within { at < vec_len desks.old }
     requires few { sum_by order_count desks.old.items < 2 ^ 50 }
     ensures recalls { Recalls slot at until to result desks.old.items desks.new.items }
     ensures len { vec_len desks.new ≡ vec_len desks.old }
 {
     match offer(rt, desks, at, Order::Leave { slot, until }) {
-        Ok(()) => State::Leaving { from: at, to },
-        Err(_) => State::Recall { at, until, to },
+        Ok(()) => ControlState::Leaving { from: at, to },
+        Err(_) => ControlState::Recall { at, until, to },
     }
 }
 
 // Whether a state has an order to give.
-pub fn waits<H>(state: &State<H>) -> bool
+pub fn waits<H>(state: &ControlState<H>) -> bool
     ensures { result ≡ is_waiting state.now }
 {
     match state {
-        State::Front { .. } => true,
-        State::Placed { .. } => false,
-        State::Recall { .. } => true,
-        State::Leaving { .. } => false,
+        ControlState::Front { .. } => true,
+        ControlState::Placed { .. } => false,
+        ControlState::Recall { .. } => true,
+        ControlState::Leaving { .. } => false,
     }
 }
 
 // Whether the half was sent to a slice, and nothing else is asked of it.
-pub fn placed<H>(state: &State<H>) -> bool
+pub fn placed<H>(state: &ControlState<H>) -> bool
     ensures { result ≡ is_placed state.now }
 {
     match state {
-        State::Front { .. } => false,
-        State::Placed { .. } => true,
-        State::Recall { .. } => false,
-        State::Leaving { .. } => false,
+        ControlState::Front { .. } => false,
+        ControlState::Placed { .. } => true,
+        ControlState::Recall { .. } => false,
+        ControlState::Leaving { .. } => false,
     }
 }
 
 // The slice that the half was sent to and isn't known to have left.
-pub fn sent_to<H>(state: &State<H>) -> Option<SliceNo>
+pub fn sent_to<H>(state: &ControlState<H>) -> Option<SliceNo>
     ensures { result ≡ sent_to state.now }
 {
     match state {
-        State::Front { .. } => None,
-        State::Placed { at } => Some(*at),
-        State::Recall { at, .. } => Some(*at),
-        State::Leaving { from, .. } => Some(*from),
+        ControlState::Front { .. } => None,
+        ControlState::Placed { at } => Some(*at),
+        ControlState::Recall { at, .. } => Some(*at),
+        ControlState::Leaving { from, .. } => Some(*from),
     }
 }
 
@@ -102,8 +102,8 @@ fn served<H: Traveller, R: Wait>(
     desks: &mut Vec<Desk<H>>,
     slot: Slot,
     hop: u64,
-    state: State<H>,
-) -> State<H>
+    state: ControlState<H>,
+) -> ControlState<H>
     requires fits { slices_fit (vec_len desks.old) state }
     requires hop { hop ≤ 2 ^ 61 }
     requires few { sum_by order_count desks.old.items < 2 ^ 50 }
@@ -111,10 +111,10 @@ fn served<H: Traveller, R: Wait>(
     ensures len { vec_len desks.new ≡ vec_len desks.old }
 {
     match state {
-        State::Front { half, to } => send(rt, desks, half, to, hop),
-        State::Placed { at } => State::Placed { at },
-        State::Recall { at, until, to } => recall(rt, desks, slot, at, until, to),
-        State::Leaving { from, to } => State::Leaving { from, to },
+        ControlState::Front { half, to } => send(rt, desks, half, to, hop),
+        ControlState::Placed { at } => ControlState::Placed { at },
+        ControlState::Recall { at, until, to } => recall(rt, desks, slot, at, until, to),
+        ControlState::Leaving { from, to } => ControlState::Leaving { from, to },
     }
 }
 
@@ -122,7 +122,7 @@ fn served<H: Traveller, R: Wait>(
 pub fn serve<H: Traveller, R: Wait>(
     rt: &R,
     desks: &mut Vec<Desk<H>>,
-    place: &mut Option<Place<H>>,
+    place: &mut Option<ControlPlace<H>>,
     slot: Slot,
 ) -> bool
     requires fits { PlaceFits (length desks.old.items) (2 ^ 48) place.old }
@@ -134,14 +134,14 @@ pub fn serve<H: Traveller, R: Wait>(
     let Some(place_was) = place.take() else {
         return false;
     };
-    let Place {
+    let ControlPlace {
         hop,
         state,
         admitted,
     } = place_was;
     let state = served(rt, desks, slot, hop, state);
     let waits = waits(&state);
-    *place = Some(Place {
+    *place = Some(ControlPlace {
         hop,
         state,
         admitted,
@@ -153,7 +153,7 @@ pub fn serve<H: Traveller, R: Wait>(
 pub fn serve_at<H: Traveller, R: Wait>(
     rt: &R,
     desks: &mut Vec<Desk<H>>,
-    places: &mut Vec<Option<Place<H>>>,
+    places: &mut Vec<Option<ControlPlace<H>>>,
     slot: Slot,
 ) -> bool
     requires within { slot < length places.old.items }
@@ -172,22 +172,22 @@ fn gone<H: Traveller, R: Wait>(
     slot: Slot,
     slice: SliceNo,
     until: u64,
-    state: State<H>,
-) -> State<H>
+    state: ControlState<H>,
+) -> ControlState<H>
     requires fits { slices_fit (vec_len desks.old) state }
     requires few { sum_by order_count desks.old.items < 2 ^ 50 }
     ensures goes { Goes slot slice until state result desks.old.items desks.new.items }
     ensures len { vec_len desks.new ≡ vec_len desks.old }
 {
     match state {
-        State::Front { half, .. } => State::Front { half, to: slice },
-        State::Placed { at } => recall(rt, desks, slot, at, until, slice),
-        State::Recall { at, until, .. } => State::Recall {
+        ControlState::Front { half, .. } => ControlState::Front { half, to: slice },
+        ControlState::Placed { at } => recall(rt, desks, slot, at, until, slice),
+        ControlState::Recall { at, until, .. } => ControlState::Recall {
             at,
             until,
             to: slice,
         },
-        State::Leaving { from, .. } => State::Leaving { from, to: slice },
+        ControlState::Leaving { from, .. } => ControlState::Leaving { from, to: slice },
     }
 }
 
@@ -195,7 +195,7 @@ fn gone<H: Traveller, R: Wait>(
 pub fn go<H: Traveller, R: Wait>(
     rt: &R,
     desks: &mut Vec<Desk<H>>,
-    place: &mut Option<Place<H>>,
+    place: &mut Option<ControlPlace<H>>,
     slot: Slot,
     slice: SliceNo,
     until: u64,
@@ -210,7 +210,7 @@ pub fn go<H: Traveller, R: Wait>(
     let Some(place_was) = place.take() else {
         unreachable!()
     };
-    let Place {
+    let ControlPlace {
         hop,
         state,
         admitted,
@@ -218,7 +218,7 @@ pub fn go<H: Traveller, R: Wait>(
     let waited = waits(&state);
     let state = gone(rt, desks, slot, slice, until, state);
     let newly = waits(&state) && !waited;
-    *place = Some(Place {
+    *place = Some(ControlPlace {
         hop: hop + 1,
         state,
         admitted,
@@ -230,7 +230,7 @@ pub fn go<H: Traveller, R: Wait>(
 pub fn go_at<H: Traveller, R: Wait>(
     rt: &R,
     desks: &mut Vec<Desk<H>>,
-    places: &mut Vec<Option<Place<H>>>,
+    places: &mut Vec<Option<ControlPlace<H>>>,
     slot: Slot,
     slice: SliceNo,
     until: u64,
@@ -246,7 +246,7 @@ pub fn go_at<H: Traveller, R: Wait>(
 }
 
 // Puts a place in its slot.
-pub fn put<H: Drop>(places: &mut Vec<Option<Place<H>>>, slot: Slot, place: Place<H>)
+pub fn put<H: Drop>(places: &mut Vec<Option<ControlPlace<H>>>, slot: Slot, place: ControlPlace<H>)
     requires { slot < vec_len places.old }
     ensures { places.new.items ≡ slice_set places.old.items slot (Some place) }
 {
@@ -254,7 +254,7 @@ pub fn put<H: Drop>(places: &mut Vec<Option<Place<H>>>, slot: Slot, place: Place
 }
 
 // A half that came home goes to the place of its slot.
-pub fn welcome<H: Drop>(places: &mut Vec<Option<Place<H>>>, half: H, slot: Slot) -> Option<H>
+pub fn welcome<H: Drop>(places: &mut Vec<Option<ControlPlace<H>>>, half: H, slot: Slot) -> Option<H>
     ensures { WelcomesAt half slot places.old.items places.new.items result }
 {
     if slot.0 as usize >= places.len() {
@@ -264,19 +264,19 @@ pub fn welcome<H: Drop>(places: &mut Vec<Option<Place<H>>>, half: H, slot: Slot)
 }
 
 // A half that came home stands at the front where its slot is leaving, and else it is handed back.
-fn received<H: Drop>(place: &mut Option<Place<H>>, half: H) -> Option<H>
+fn received<H: Drop>(place: &mut Option<ControlPlace<H>>, half: H) -> Option<H>
     ensures { Welcomes half place.old place.new result }
 {
     let Some(place_was) = place.take() else {
         return Some(half);
     };
-    let Place {
+    let ControlPlace {
         hop,
         state,
         admitted,
     } = place_was;
     let (state, back) = homed(state, half);
-    *place = Some(Place {
+    *place = Some(ControlPlace {
         hop,
         state,
         admitted,
@@ -285,14 +285,20 @@ fn received<H: Drop>(place: &mut Option<Place<H>>, half: H) -> Option<H>
 }
 
 // What a state becomes as a half comes home, which is handed back where it isn't expected.
-fn homed<H: Drop>(state: State<H>, half: H) -> (State<H>, Option<H>)
+fn homed<H: Drop>(state: ControlState<H>, half: H) -> (ControlState<H>, Option<H>)
     ensures { Homes half state result.0 result.1 }
 {
     match state {
-        State::Front { half: own, to } => (State::Front { half: own, to }, Some(half)),
-        State::Placed { at } => (State::Placed { at }, Some(half)),
-        State::Recall { at, until, to } => (State::Recall { at, until, to }, Some(half)),
-        State::Leaving { to, .. } => (State::Front { half, to }, None),
+        ControlState::Front { half: own, to } => (
+            ControlState::Front { half: own, to },
+            Some(half),
+        ),
+        ControlState::Placed { at } => (ControlState::Placed { at }, Some(half)),
+        ControlState::Recall { at, until, to } => (
+            ControlState::Recall { at, until, to },
+            Some(half),
+        ),
+        ControlState::Leaving { to, .. } => (ControlState::Front { half, to }, None),
     }
 }
 

@@ -1,3 +1,4 @@
 mod StandardFacts
 pub mod PaddingLemmas
 pub mod TextLemmas
+mod HexadecimalLemmas

@@ -1,21 +1,28 @@
-//! The small types that every crate of the gateway shares: numbers that keep their range, the IMSI,
-//! octets, packets, verdicts, replies and effects; and how a slot's TEIDs and its address follow from
-//! its number. TEIDs are those of TS 29.281, the IMSI that of TS 23.003. Only copies take memory.
+//! The small types that every crate of the gateway shares: numbers that keep their range, the IMSI, octets,
+//! packets, verdicts, replies and effects; how a slot's TEIDs and its address follow from its number; and octets
+//! that print in hexadecimal, as a trace and a report write them. TEIDs are those of TS 29.281, the IMSI that of TS
+//! 23.003. Only copies take memory.
 //!
 //! ```
-//! use pc_base::{Addr4, Slot, TeidUse, addr_of, slot_of_teid, teid_of};
+//! use pc_base::{Addr4, Hexadecimal, Slot, TeidUse, addr_of, slot_of_teid, teid_of};
+//! use std::test::Fail;
 //!
-//! fn main(rt: HostRuntime) {
+//! fn main(rt: HostRuntime) -> Result<(), Fail> {
 //!     let slot = Slot(254);
 //!     assert_eq!(rt; addr_of(slot), Addr4(0x0a2d_0100));
 //!     let bearer = teid_of(slot, TeidUse::Bearer(0));
 //!     assert_eq!(rt; slot_of_teid(bearer), Some((slot, TeidUse::Bearer(0))));
+//!     let octets = [0x0a, 0x2f];
+//!     let text = format!(in rt.alloc(); "{}", Hexadecimal(&octets))?;
+//!     assert_eq!(rt; text.as_str(), "0a2f");
+//!     Ok(())
 //! }
 //! ```
 #![tactic(auto)]
 
 mod addresses;
 mod effect;
+mod hexadecimal;
 mod imsi;
 mod numbered;
 mod numbers;
@@ -27,6 +34,7 @@ mod text;
 
 pub use addresses::{addr_of, addresses_are_distinct, slot_of_addr};
 pub use effect::{Effect, Fate};
+pub use hexadecimal::Hexadecimal;
 pub use imsi::Imsi;
 pub use numbered::Numbered;
 pub use numbers::{Addr4, Kbps, Moment, SliceNo, Slot, Teid};

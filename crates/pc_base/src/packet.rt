@@ -10,7 +10,7 @@ pub struct Peer {
     pub addr: Addr4,
 }
 
-/// Where a subscriber's counter half stands.
+/// Where a subscriber's data half stands.
 #[derive(Clone, Copy, Debug, PartialEq, Eq)]
 pub enum Place {
     /// On this slice.

@@ -2,7 +2,7 @@
 use Rattle.std.proofs.Common.{◌≡◌, ℕ, ◌<◌, List, [], ◌∷◌, ◌++◌, length, take, drop, Option, None, Some, sym, ◌∙◌, ap, refl, append_assoc}
 use Rattle.std.proofs.lemmas.List.{take-append-drop, append-nil}
 use Rattle.std.specs.Io.KnownBytes.{Appends, Keeps, Consumes}
-use Rattle.pc_outside.specs.Fronts.{AppendsFront}
+use Rattle.pc_outside.specs.Fronts.{AppendsPrefix}
 
 -- one growth after the other
 pub appends_both : (old mid new : Option (List ℕ)) (xs ys : List ℕ) → Appends old mid xs → Appends mid new ys
@@ -49,7 +49,7 @@ written-whole old new octets [] so_far none = rw (so_far.parts, append-nil so_fa
 written-whole old new octets (x ∷ rest) so_far none = cc
 
 pub written-cut : (old mid new : Option (List ℕ)) (octets rest : List ℕ) → IsWrittenUpTo old mid octets rest
-    → 0 < length rest → Keeps mid new → AppendsFront old new octets
+    → 0 < length rest → Keeps mid new → AppendsPrefix old new octets
 written-cut old mid new octets rest so_far some keeps = record {
   front = so_far.front;
   rest = rest;

@@ -7,3 +7,5 @@ pub mod ReadSteps
 pub mod OneAnswerCases
 pub mod ToldLemmas
 mod Rests
+pub mod InputTexts
+pub mod InputLemmas

@@ -3,7 +3,7 @@ use Rattle.std.specs.Prelude.{◌≡◌, ℕ, ◌<◌, List, ◌++◌, length, O
 use Rattle.std.specs.Io.KnownBytes.{Appends}
 
 -- known octets grow by a prefix of the octets, and not by all of them
-pub record AppendsFront (old new : Option (List ℕ)) (octets : List ℕ) : Type 0 where
+pub record AppendsPrefix (old new : Option (List ℕ)) (octets : List ℕ) : Type 0 where
   pub front : List ℕ
   pub rest : List ℕ
   pub parts : octets ≡ front ++ rest

@@ -10,3 +10,5 @@ pub mod Buffer
 pub mod OneAnswer
 pub mod Streams
 pub mod WhereTold
+pub mod Texts
+pub mod InputRead

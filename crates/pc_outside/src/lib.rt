@@ -18,6 +18,7 @@
 //! ```
 #![tactic(auto)]
 
+mod input_stop;
 mod line_buffer;
 mod memory;
 mod reading;
@@ -28,6 +29,7 @@ mod std_streams;
 mod sure;
 mod writing;
 
+pub use input_stop::InputStop;
 pub use line_buffer::{INPUT_MAX, LINE_MAX, LineBuf, NEWLINE};
 pub use memory::{MemSink, MemSource};
 pub use reading::{LineRead, one_answer, read_line};

@@ -2,7 +2,7 @@
 ghost use Rattle.std.specs.Prelude.{◌≤◌, OnOk, OnErr};
 ghost use Rattle.std.specs.Io.KnownBytes.{Appends};
 ghost use Rattle.pc_outside.specs.Faults.{Rises};
-ghost use Rattle.pc_outside.specs.Fronts.{AppendsFront};
+ghost use Rattle.pc_outside.specs.Fronts.{AppendsPrefix};
 
 use super::sinks::Sink;
 
@@ -13,7 +13,7 @@ pub struct WriteFault;
 /// Writes all the octets, in as many pieces as the sink wants. It takes no memory.
 pub fn write_whole<K: Sink>(sink: &mut K, bytes: &[u8]) -> Result<(), WriteFault>
     ensures whole { OnOk result (Appends (K.written sink.old) (K.written sink.new) bytes.now) }
-    ensures cut { OnErr result (AppendsFront (K.written sink.old) (K.written sink.new) bytes.now) }
+    ensures cut { OnErr result (AppendsPrefix (K.written sink.old) (K.written sink.new) bytes.now) }
 
     // A fault is the sink's.
     ensures later { K.faults sink.old ≤ K.faults sink.new }

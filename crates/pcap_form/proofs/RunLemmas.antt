@@ -3,7 +3,7 @@ use Rattle.std.proofs.Common.{◌≡◌, ℕ, ◌+◌, ◌≤◌, ◌^◌, inl, 
 use Rattle.std.specs.Io.KnownBytes.{Appends, IsAtEnd, prepend_known}
 use Rattle.std.proofs.KnownBytes.{Appends-nil, Appends-trans}
 use Rattle.std.proofs.lemmas.Grind.{flat_map-append}
-use Rattle.pc_outside.specs.Fronts.{AppendsFront}
+use Rattle.pc_outside.specs.Fronts.{AppendsPrefix}
 use Rattle.pcap_form.specs.declared.head.CaptureHead.{CaptureHead}
 use Rattle.pcap_form.specs.declared.record.RecordHead.{RecordHead}
 use Rattle.pcap_form.specs.Head.{head_of}
@@ -14,8 +14,8 @@ use Rattle.pcap_form.specs.Reading.{IsThere}
 use Rattle.pc_outside.specs.WhereTold.{WhereTold}
 use Rattle.pcap_form.specs.Progress.{Begins, Cuts, Ends, HasRead, Progress, Reached, Takes}
 use Rattle.pcap_form.specs.declared.importing.Stopped.{Stopped}
-use Rattle.pcap_form.specs.declared.importing.Unwritten.{Unwritten}
-use Rattle.pcap_form.specs.declared.importing.Unwritten.TheVariants as unwritten
+use Rattle.pcap_form.specs.declared.importing.UnwrittenTrace.{UnwrittenTrace}
+use Rattle.pcap_form.specs.declared.importing.UnwrittenTrace.TheVariants as unwritten
 use Rattle.pcap_form.proofs.ToldLemmas.{told_gains, told_left, told_passed, told_start}
 use Rattle.pcap_form.proofs.ReadLemmas.{read_header, read_more}
 use Rattle.pcap_form.proofs.StopLemmas.{begins}
@@ -248,14 +248,14 @@ ends_early stop start left sink waiting empty reached = record {
 }
 
 -- A record's line couldn't be written, or found no memory.
-pub cut_at : (why : Unwritten) (start left old mid new : Option (List ℕ)) (head : CaptureHead) (first : Option ℕ)
+pub cut_at : (why : UnwrittenTrace) (start left old mid new : Option (List ℕ)) (head : CaptureHead) (first : Option ℕ)
     (least room after : ℕ) (waiting text : List ℕ)
     (done : List Record) (one : RecordHead) (held : List ℕ)
     → IsThere one head held → after + (record_len + one.captured) ≡ room
     → Progress start (prepend_known held left) old mid head first least room waiting done
     → text ≡ waiting ++ text_of (stamped (moment_of (unwrap_or first one.time) least one.time)
     (record_in head held).said)
-    → (why ≡ unwritten.WriteFault → AppendsFront mid new text) → (why ≡ unwritten.NoMemory → new ≡ mid)
+    → (why ≡ unwritten.WriteFault → AppendsPrefix mid new text) → (why ≡ unwritten.NoMemory → new ≡ mid)
     → Cuts why start left old new
 cut_at unwritten.NoMemory start left old mid new head first least room after waiting text done one held there given
     so_far is cut kept =

@@ -6,8 +6,8 @@ use Rattle.pcap_form.specs.declared.record.RecordHead.{RecordHead}
 use Rattle.pcap_form.specs.Record.{Front, nothing, part, wrong, whole, front_of, captured_of, record_len, time_of}
 use Rattle.pcap_form.specs.Record.{snapshot_max}
 use Rattle.pcap_form.specs.Ahead.{Ahead}
-use Rattle.pcap_form.specs.declared.reading.Next.{Next}
-use Rattle.pcap_form.specs.declared.reading.Next.TheVariants as next
+use Rattle.pcap_form.specs.declared.reading.NextRecord.{NextRecord}
+use Rattle.pcap_form.specs.declared.reading.NextRecord.TheVariants as next
 
 -- the record with this head is held whole
 pub record IsThere (one : RecordHead) (head : CaptureHead) (held : List ℕ) : Type 0 where
@@ -23,7 +23,7 @@ Waits part = Unit {0}
 Waits wrong = ⊥
 Waits (whole one rest) = ⊥
 
-abbrev pub Finds : Next → CaptureHead → Ahead → Option (List ℕ) → Type 0
+abbrev pub Finds : NextRecord → CaptureHead → Ahead → Option (List ℕ) → Type 0
 Finds (next.Record one) head now left = IsThere one head now.held × (length now.held ≤ now.room)
 Finds next.Broken head now left = (record_len ≤ length now.held) × (snapshot_max < captured_of head now.held)
     × (length now.held ≤ now.room)

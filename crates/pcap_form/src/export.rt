@@ -1,5 +1,5 @@
 //! The record that a line gives.
-ghost use Rattle.std.specs.Prelude.{◌≡◌, ◌++◌, ◌&&◌, ◌≤◌, length, take, IfOk, OnOk, OnErr};
+ghost use Rattle.std.specs.Prelude.{◌≡◌, ◌+◌, ◌++◌, ◌&&◌, ◌≤◌, length, IfOk, OnOk, OnErr};
 ghost use Rattle.pcap_form.specs.Export.{captured, framed, is_packet, message_in, message_max, packet_in, record_head};
 ghost use Rattle.pcap_form.specs.Export.{record_of, wrapped, wrapped_head};
 ghost use Rattle.pcap_form.specs.Packet.{is_for_user};
@@ -9,6 +9,7 @@ use crate::record_line::{S1U_PORT, S11_PORT, is_for_user};
 use ipv4_packet::{Ip4, UDP};
 use pc_base::{Moment, Octets};
 use std::alloc::Global;
+use text_fields::Text;
 use trace_lines::{LineKind, TraceLine};
 use wire_octets::{be16_octets, be32_octets};
 
@@ -57,24 +58,9 @@ fn packet_in(alloc: Global, octets: &[u8]) -> Result<Option<Octets>, NoMemory>
 
 /// Appends the record of a line, if the line is kept: its head with the line's moment, and the
 /// captured octets. Where memory runs out, nothing is.
-pub fn push_record(out: &mut Vec<u8>, line: &TraceLine) -> Result<(), NoMemory>
-    ensures appended { OnOk result (out.new.items ≡ out.old.items ++ record_of line.now) }
-    ensures kept { OnErr result (out.new.items ≡ out.old.items) }
-{
-    let start = out.len();
-    match push_parts(out, line) {
-        Ok(()) => Ok(()),
-        Err(none) => {
-            out.truncate(start);
-            Err(none)
-        }
-    }
-}
-
-// The same, but that some of the record stands behind what was there where memory runs out.
-fn push_parts(out: &mut Vec<u8>, line: &TraceLine) -> Result<(), NoMemory>
-    ensures appended { OnOk result (out.new.items ≡ out.old.items ++ record_of line.now) }
-    ensures before { OnErr result (take (length out.old.items) out.new.items ≡ out.old.items) }
+pub fn push_record(out: &mut Text, line: &TraceLine) -> Result<(), NoMemory>
+    ensures appended { OnOk result (out.new ≡ out.old ++ record_of line.now) }
+    ensures kept { OnErr result (out.new ≡ out.old) }
 {
     match &line.kind {
         LineKind::S11 => push_message(out, line.moment, S11_PORT, line.octets.as_slice()),
@@ -84,33 +70,35 @@ fn push_parts(out: &mut Vec<u8>, line: &TraceLine) -> Result<(), NoMemory>
     }
 }
 
-fn push_message(
-    out: &mut Vec<u8>,
-    moment: Moment,
-    port: u16,
-    message: &[u8],
-) -> Result<(), NoMemory>
-    ensures appended { OnOk result (out.new.items ≡ out.old.items ++ framed moment (message_in port message.now)) }
-    ensures before { OnErr result (take (length out.old.items) out.new.items ≡ out.old.items) }
+fn push_message(out: &mut Text, moment: Moment, port: u16, message: &[u8]) -> Result<(), NoMemory>
+    ensures appended { OnOk result (out.new ≡ out.old ++ framed moment (message_in port message.now)) }
+    ensures kept { OnErr result (out.new ≡ out.old) }
 {
     if message.len() > MESSAGE_MAX {
         return Ok(());
     }
-    push_head(out, moment, 28 + message.len() as u32)?;
-    push_wrapped(out, port, message)?;
-    Ok(())
+    out.push_parts(&message_head(moment, port, message.len() as u16), message)
 }
 
-fn push_packet(out: &mut Vec<u8>, moment: Moment, octets: &[u8]) -> Result<(), NoMemory>
-    ensures appended { OnOk result (out.new.items ≡ out.old.items ++ framed moment (packet_in octets.now)) }
-    ensures before { OnErr result (take (length out.old.items) out.new.items ≡ out.old.items) }
+// The head of a message's record, and the headers of the packet that it is put in.
+fn message_head(moment: Moment, port: u16, len: u16) -> [u8; 44]
+    requires { len ≤ message_max }
+    ensures { result ≡ record_head moment (28 + len) ++ wrapped_head port len }
+{
+    let mut head = [0; 44];
+    head[..16].copy_from_slice(&record_head(moment, 28 + u32::from(len)));
+    head[16..].copy_from_slice(&wrapped_head(port, len));
+    head
+}
+
+fn push_packet(out: &mut Text, moment: Moment, octets: &[u8]) -> Result<(), NoMemory>
+    ensures appended { OnOk result (out.new ≡ out.old ++ framed moment (packet_in octets.now)) }
+    ensures kept { OnErr result (out.new ≡ out.old) }
 {
     if !is_kept(octets) {
         return Ok(());
     }
-    push_head(out, moment, octets.len() as u32)?;
-    out.extend_from_slice(octets)?;
-    Ok(())
+    out.push_parts(&record_head(moment, octets.len() as u32), octets)
 }
 
 // Whether octets are a packet of just its total length, to a user's address.
@@ -123,14 +111,7 @@ fn is_kept(octets: &[u8]) -> bool
     }
 }
 
-// Appends a record's head, for so many octets.
-fn push_head(out: &mut Vec<u8>, moment: Moment, len: u32) -> Result<(), NoMemory>
-    ensures appended { OnOk result (out.new.items ≡ out.old.items ++ record_head moment len) }
-    ensures kept { OnErr result (out.new.items ≡ out.old.items) }
-{
-    out.extend_from_slice(&record_head(moment, len))
-}
-
+// A record's head, for so many octets.
 #[tactic(auto, unfolding(crate::specs::Export::record_head))]
 fn record_head(moment: Moment, len: u32) -> [u8; 16]
     ensures { result ≡ record_head moment len }
@@ -143,11 +124,10 @@ fn record_head(moment: Moment, len: u32) -> [u8; 16]
     ]
 }
 
-// Appends a message in a packet.
+// A message in a packet.
 fn push_wrapped(out: &mut Vec<u8>, port: u16, message: &[u8]) -> Result<(), NoMemory>
     requires { length message.now ≤ message_max }
-    ensures appended { OnOk result (out.new.items ≡ out.old.items ++ wrapped port message.now) }
-    ensures before { OnErr result (take (length out.old.items) out.new.items ≡ out.old.items) }
+    ensures { OnOk result (out.new.items ≡ out.old.items ++ wrapped port message.now) }
 {
     out.extend_from_slice(&wrapped_head(port, message.len() as u16))?;
     out.extend_from_slice(message)?;

@@ -2,7 +2,7 @@
 ghost use Rattle.std.specs.Prelude.{◌≡◌, ◌+◌, ◌≤◌, ◌^◌, ◌++◌, [], ℕ, List, Option, length, take};
 ghost use Rattle.std.specs.Prelude.{unwrap_or, OnOk, OnErr, IfOk, IfErr, Ok, Err};
 ghost use Rattle.pc_outside.specs.Faults.{Rises};
-ghost use Rattle.pc_outside.specs.Fronts.{AppendsFront};
+ghost use Rattle.pc_outside.specs.Fronts.{AppendsPrefix};
 ghost use Rattle.pcap_form.specs.Head.{head_of};
 ghost use Rattle.pcap_form.specs.Lent.{said_by};
 ghost use Rattle.pcap_form.specs.Record.{record_in};
@@ -14,7 +14,7 @@ ghost use Rattle.pcap_form.specs.Report.{Runs};
 use crate::block::{Block, Fill};
 use crate::head::{CaptureHead, HEAD_LEN, read_head};
 use crate::lent::LentKind;
-use crate::reading::{Next, next_record};
+use crate::reading::{NextRecord, next_record};
 use crate::record::{RECORD_LEN, RecordHead, moment_of};
 use crate::record_line::lent_kind;
 use crate::text::push_line;
@@ -42,7 +42,7 @@ pub enum Imported {
 
 /// Why a trace can't go on.
 #[derive(Clone, Copy)]
-enum Unwritten {
+enum UnwrittenTrace {
     WriteFault,
     NoMemory,
 }
@@ -50,14 +50,14 @@ enum Unwritten {
 // How many octets of the trace are gathered before they are written.
 const PIECE_LEN: usize = 0x1_0000;
 
-impl From<AllocError> for Unwritten {
+impl From<AllocError> for UnwrittenTrace {
     ghost use Rattle.std.specs.Prelude.{◌≡◌};
-    ghost use Rattle.pcap_form.specs.declared.importing.Unwritten.TheVariants.{NoMemory};
+    ghost use Rattle.pcap_form.specs.declared.importing.UnwrittenTrace.TheVariants.{NoMemory};
 
     ghost from_gives = { λ _ why. why ≡ NoMemory };
 
-    fn from(_error: AllocError) -> Unwritten {
-        Unwritten::NoMemory
+    fn from(_error: AllocError) -> UnwrittenTrace {
+        UnwrittenTrace::NoMemory
     }
 }
 
@@ -71,16 +71,16 @@ enum Stopped {
 }
 
 // Writes what waits of the trace, and empties it.
-fn write_out<K: Sink>(sink: &mut K, out: &mut Text) -> Result<(), Unwritten>
+fn write_out<K: Sink>(sink: &mut K, out: &mut Text) -> Result<(), UnwrittenTrace>
     ensures sent { OnOk result (IsSent (K.written sink.old) (K.written sink.new) out.old out.new) }
-    ensures cut { OnErr result (AppendsFront (K.written sink.old) (K.written sink.new) out.old) }
-    ensures no_other { OnErr result (result ≡ Err Unwritten.WriteFault) }
+    ensures cut { OnErr result (AppendsPrefix (K.written sink.old) (K.written sink.new) out.old) }
+    ensures no_other { OnErr result (result ≡ Err UnwrittenTrace.WriteFault) }
 
     ensures later { K.faults sink.old ≤ K.faults sink.new }
     ensures fault { OnErr result (Rises (K.faults sink.old) (K.faults sink.new)) }
 {
     if write_whole(sink, out.as_slice()).is_err() {
-        return Err(Unwritten::WriteFault);
+        return Err(UnwrittenTrace::WriteFault);
     }
     out.clear();
     Ok(())
@@ -95,17 +95,17 @@ fn take_record<K: Sink>(
     moment: Moment,
     sink: &mut K,
     out: &mut Text,
-) -> Result<(), Unwritten>
+) -> Result<(), UnwrittenTrace>
     requires { IsThere one head.now held.now }
 
     ensures taken { OnOk result (Takes (K.written sink.old) (K.written sink.new)
         (out.old ++ text_of (stamped moment (record_in head.now held.now).said)) out.new) }
-    ensures cut { result ≡ Err Unwritten.WriteFault → AppendsFront (K.written sink.old) (K.written sink.new)
+    ensures cut { result ≡ Err UnwrittenTrace.WriteFault → AppendsPrefix (K.written sink.old) (K.written sink.new)
         (out.old ++ text_of (stamped moment (record_in head.now held.now).said)) }
-    ensures kept { result ≡ Err Unwritten.NoMemory → sink.new ≡ sink.old }
+    ensures kept { result ≡ Err UnwrittenTrace.NoMemory → sink.new ≡ sink.old }
 
     ensures later { K.faults sink.old ≤ K.faults sink.new }
-    ensures fault { result ≡ Err Unwritten.WriteFault → Rises (K.faults sink.old) (K.faults sink.new) }
+    ensures fault { result ≡ Err UnwrittenTrace.WriteFault → Rises (K.faults sink.old) (K.faults sink.new) }
 {
     push_lent(out, moment, said_in(head, one, held))?;
     if out.as_slice().len() < PIECE_LEN {
@@ -150,7 +150,7 @@ fn import_records<S: Source, K: Sink>(
     sink: &mut K,
     block: &mut Block,
     out: &mut Text,
-) -> Result<Stopped, Unwritten>
+) -> Result<Stopped, UnwrittenTrace>
     requires fresh { block.old ≡ record { held = []; room = 2 ^ 40 } }
     requires empty { out.old ≡ [] }
 
@@ -162,7 +162,7 @@ fn import_records<S: Source, K: Sink>(
     ensures source_later { S.faults source.old ≤ S.faults source.new }
     ensures sink_later { K.faults sink.old ≤ K.faults sink.new }
     ensures read_fault { result ≡ Ok Stopped.ReadFault → Rises (S.faults source.old) (S.faults source.new) }
-    ensures write_fault { result ≡ Err Unwritten.WriteFault → Rises (K.faults sink.old) (K.faults sink.new) }
+    ensures write_fault { result ≡ Err UnwrittenTrace.WriteFault → Rises (K.faults sink.old) (K.faults sink.new) }
 {
     match block.fill(source, HEAD_LEN) {
         Fill::Enough => {}
@@ -178,7 +178,7 @@ fn import_records<S: Source, K: Sink>(
     let mut least = Moment(0);
     loop {
         match next_record(&head, source, block) {
-            Next::Record(one) => {
+            NextRecord::Record(one) => {
                 let start = first_time(first, one.time);
                 let moment = moment_of(start, least, one.time);
                 take_record(&head, one, block.held(), moment, sink, out)?;
@@ -186,11 +186,11 @@ fn import_records<S: Source, K: Sink>(
                 first = Some(start);
                 least = moment;
             }
-            Next::Broken => return Ok(Stopped::BadCapture),
-            Next::Cut => return Ok(Stopped::BadCapture),
-            Next::End => return Ok(Stopped::Ended),
-            Next::Full => return Ok(Stopped::TooLong),
-            Next::Fault => return Ok(Stopped::ReadFault),
+            NextRecord::Broken => return Ok(Stopped::BadCapture),
+            NextRecord::Cut => return Ok(Stopped::BadCapture),
+            NextRecord::End => return Ok(Stopped::Ended),
+            NextRecord::Full => return Ok(Stopped::TooLong),
+            NextRecord::Fault => return Ok(Stopped::ReadFault),
         }
     }
 }
@@ -213,12 +213,12 @@ fn imported_at(stop: Stopped) -> Imported
     }
 }
 
-fn imported_without(why: Unwritten) -> Imported
+fn imported_without(why: UnwrittenTrace) -> Imported
     ensures { result ≡ imported_without why }
 {
     match why {
-        Unwritten::WriteFault => Imported::WriteFault,
-        Unwritten::NoMemory => Imported::NoMemory,
+        UnwrittenTrace::WriteFault => Imported::WriteFault,
+        UnwrittenTrace::NoMemory => Imported::NoMemory,
     }
 }
 

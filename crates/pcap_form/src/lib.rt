@@ -27,11 +27,10 @@ mod record_line;
 mod text;
 
 pub use export::{HEADER, export_one, push_record};
-pub use head::{CaptureHead, HEAD_LEN, read_head};
+pub use head::{CaptureHead, read_head};
 pub use importing::{Imported, import};
 pub use laws::{kept_lines_come_back, traces_come_back};
 pub use lent::LentKind;
 pub use record::{RecordHead, moment_of, read_record_head};
 pub use record_line::{import_one, lent_kind};
 pub use std::alloc::AllocError as NoMemory;
-pub use text::push_line;

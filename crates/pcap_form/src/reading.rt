@@ -11,7 +11,7 @@ use pc_outside::Source;
 
 /// What comes next in a capture.
 #[derive(Clone, Copy, Debug, PartialEq, Eq)]
-pub enum Next {
+pub enum NextRecord {
     /// A record with this head is held whole.
     Record(RecordHead),
     /// A record's captured length is above the most.
@@ -27,29 +27,29 @@ pub enum Next {
 }
 
 /// Takes octets until the next record is held whole, or why it isn't is known.
-pub fn next_record<S: Source>(head: &CaptureHead, source: &mut S, block: &mut Block) -> Next
+pub fn next_record<S: Source>(head: &CaptureHead, source: &mut S, block: &mut Block) -> NextRecord
     ensures gains { Gains block.old block.new (S.left source.old) (S.left source.new) }
     ensures finds { Finds result head.now block.new (S.left source.new) }
 
     // A fault is the source's.
     ensures later { S.faults source.old ≤ S.faults source.new }
-    ensures fault { result ≡ Next.Fault → Rises (S.faults source.old) (S.faults source.new) }
+    ensures fault { result ≡ NextRecord.Fault → Rises (S.faults source.old) (S.faults source.new) }
 {
     match block.fill(source, RECORD_LEN) {
         Fill::Enough => {}
-        Fill::End if block.held().is_empty() => return Next::End,
-        Fill::End => return Next::Cut,
-        Fill::Full => return Next::Full,
-        Fill::Fault => return Next::Fault,
+        Fill::End if block.held().is_empty() => return NextRecord::End,
+        Fill::End => return NextRecord::Cut,
+        Fill::Full => return NextRecord::Full,
+        Fill::Fault => return NextRecord::Fault,
     }
     let one = read_record_head(head, block.held());
     if one.captured > SNAPSHOT_MAX {
-        return Next::Broken;
+        return NextRecord::Broken;
     }
     match block.fill(source, RECORD_LEN + one.captured as usize) {
-        Fill::Enough => Next::Record(one),
-        Fill::End => Next::Cut,
-        Fill::Full => Next::Full,
-        Fill::Fault => Next::Fault,
+        Fill::Enough => NextRecord::Record(one),
+        Fill::End => NextRecord::Cut,
+        Fill::Full => NextRecord::Full,
+        Fill::Fault => NextRecord::Fault,
     }
 }

@@ -1,13 +1,13 @@
 -- What `balance` wrote, by its status.
 use Rattle.std.proofs.Common.{◌≡◌, ℕ, inl, inr, List, [], Option, None, Some, refl, sym, ◌∙◌, subst}
 use Rattle.std.proofs.KnownBytes.{Appends-nil}
-use Rattle.audit_reading.specs.Said.{HasNoEntry, report_texts}
-use Rattle.audit_reading.specs.Texts.{big, ended, long, texts_of}
-use Rattle.balance_run.specs.Report.{Reports}
-use Rattle.balance_run.specs.Report.{Balances as BalancesThere}
-use Rattle.balance_run.specs.Said.{HasBadLine, IsTrace}
-use Rattle.balance_run.specs.declared.balancing.Balanced.{Balanced}
-use Rattle.balance_run.specs.declared.balancing.Balanced.TheVariants as balanced
+use Rattle.audit_core.specs.Said.{HasNoEntry, report_texts}
+use Rattle.pc_outside.specs.Texts.{big, ended, long, texts_of}
+use Rattle.balance_plan.specs.Report.{Reports}
+use Rattle.balance_plan.specs.Report.{Balances as BalancesThere}
+use Rattle.balance_plan.specs.Said.{HasBadLine, IsTrace}
+use Rattle.balance_plan.specs.declared.balancing.Balanced.{Balanced}
+use Rattle.balance_plan.specs.declared.balancing.Balanced.TheVariants as balanced
 use Rattle.pepc.specs.Balance.{BalanceReports, Balances, status_of}
 use Rattle.trace_lines.specs.Input as trace
 use Rattle.trace_lines.specs.declared.bad.LineBad.{LineBad}
@@ -51,8 +51,8 @@ nothing_balanced slices most start sink = record { text = []; written = Appends-
 not_bad : (number : ℕ) (why : LineBad) → trace.ended ≡ trace.bad number why → ⊥
 not_bad number why same = cc
 
--- Where the input ends with its last line, no line of the trace is refused, each of the report is an entry's, and nothing
--- failed, the trace was written, unless memory ran out.
+-- Where the input ends with its last line, no line of the trace is refused, each of the report is an entry's, and
+-- nothing failed, the trace was written, unless memory ran out.
 pub balance_complete : (slices most : ℕ) (ending : Status) (source_failed sink_failed : Type 0) (octets : List ℕ)
     (start left old new : Option (List ℕ)) → start ≡ Some octets → (texts_of octets).stop ≡ ended
     → IsTrace (texts_of octets).lines → (HasNoEntry (report_texts (texts_of octets).lines) → ⊥)

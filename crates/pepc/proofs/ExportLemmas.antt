@@ -3,7 +3,7 @@ use Rattle.std.proofs.Common.{◌≡◌, ℕ, inl, inr, List, [], ◌∷◌, ◌
 use Rattle.std.specs.Io.KnownBytes.{Appends}
 use Rattle.std.proofs.KnownBytes.{Appends-nil, Appends-trans}
 use Rattle.std.proofs.lemmas.Grind.{flat_map-append}
-use Rattle.pc_outside.specs.Fronts.{AppendsFront}
+use Rattle.pc_outside.specs.Fronts.{AppendsPrefix}
 use Rattle.trace_lines.specs.Line.{Line}
 use Rattle.pcap_form.specs.Export.{export_of, header, record_of}
 use Rattle.pepc.specs.ExportProgress.{BreaksOff, Captures, IsFirst}
@@ -57,7 +57,7 @@ sends waiting now done old mid new so_far written emptied = record {
 
 -- or a prefix of it
 pub breaks_off : (waiting : List ℕ) (done : List Line) (old mid new : Option (List ℕ))
-    → Captures waiting done old mid → AppendsFront mid new waiting → BreaksOff done old new
+    → Captures waiting done old mid → AppendsPrefix mid new waiting → BreaksOff done old new
 breaks_off waiting done old mid new so_far cut = record {
   sent = so_far.sent ++ cut.front;
   more = cut.rest;

@@ -10,7 +10,7 @@ use Rattle.trace_run.specs.declared.status.Status.{Status}
 use Rattle.trace_run.specs.declared.status.Status.TheVariants as status
 use Rattle.pepc.specs.Audit.{audit_setup}
 use Rattle.pepc.specs.Jobs.{Completes, Does, without_threads}
-use Rattle.pepc.specs.Make.{IsMakeFront, Made, Makes}
+use Rattle.pepc.specs.Make.{IsMakePrefix, Made, Makes}
 use Rattle.trace_run.specs.Report.{IsDone}
 use Rattle.pepc.proofs.AuditReports.{audit_complete, nothing_audited, nothing_settles}
 use Rattle.pepc.proofs.BalanceReports.{balance_complete, nothing_balanced}
@@ -18,19 +18,19 @@ use Rattle.pepc.proofs.ExportReports.{export_complete, nothing_exported}
 use Rattle.pepc.proofs.ImportReports.{import_complete, nothing_imported}
 use Rattle.pepc.proofs.ResumeReports.{nothing_resumed, resume_complete}
 use Rattle.pepc.proofs.SaveReports.{nothing_saved, save_complete}
-use Rattle.state_run.specs.Laws.{LinesSayOneState}
-use Rattle.solo_run.proofs.ReportLemmas.{nothing_runs}
+use Rattle.record_codec.specs.StateLaws.{LinesSayOneState}
+use Rattle.solo_command.proofs.ReportLemmas.{nothing_runs}
 use Rattle.trace_run.proofs.EndingLemmas.{complete, nothing_runs as nothing_told_of}
-use Rattle.drive_run.specs.Driven.{IsDrivenReport}
-use Rattle.drive_run.proofs.Reports.{says_nothing}
+use Rattle.drive_command.specs.Driven.{IsDrivenReport}
+use Rattle.drive_command.proofs.Reports.{says_nothing}
 use Rattle.lawful_run.specs.Trace.{IsReport}
-use Rattle.replay_run.proofs.Reports.{says_nothing as nothing_replayed}
+use Rattle.replay_command.proofs.Reports.{says_nothing as nothing_replayed}
 use Rattle.command_words.specs.declared.jobs.Lanes.{Lanes}
 use Rattle.pepc.specs.Drive.{schedule_asked}
 use Rattle.pepc.specs.Replay.{setup_asked}
-use Rattle.solo_run.specs.Report.{IsSoloReport}
+use Rattle.solo_command.specs.Report.{IsSoloReport}
 
-no_front : (summary : Bool) (lines : List Line) → IsMakeFront summary lines []
+no_front : (summary : Bool) (lines : List Line) → IsMakePrefix summary lines []
 no_front false lines = record { front = []; rest = lines; parts = refl; written = refl }
 no_front true lines = refl
 

@@ -1,9 +1,9 @@
 -- What `make` leaves of a summary, by what was appended.
 use Rattle.std.proofs.Common.{◌≡◌, ℕ, ◌+◌, true, List, Option, sym, ap, subst, ◌∙◌}
 use Rattle.std.specs.Io.KnownBytes.{Appends}
-use Rattle.entry_counts.specs.Counts.{Counts}
-use Rattle.entry_counts.specs.Summary.{summary_text}
-use Rattle.pc_outside.specs.Fronts.{AppendsFront}
+use Rattle.report_lines.specs.Counts.{Counts}
+use Rattle.report_lines.specs.Summary.{summary_text}
+use Rattle.pc_outside.specs.Fronts.{AppendsPrefix}
 use Rattle.trace_maker.specs.Generated.{made}
 use Rattle.trace_maker.proofs.ReadLemmas.{length-made}
 use Rattle.trace_run.specs.declared.status.Status.TheVariants as status
@@ -22,7 +22,7 @@ pub summary_whole : (seed subs lines : ℕ) (old new : Option (List ℕ)) (text 
 summary_whole seed subs lines old new text is sent = record { text = text; written = sent; is = is }
 
 pub summary_cut : (seed subs lines : ℕ) (old new : Option (List ℕ)) (text : List ℕ)
-    → IsSummary (made seed subs lines) text → AppendsFront old new text
+    → IsSummary (made seed subs lines) text → AppendsPrefix old new text
     → Makes seed subs lines true status.WriteFault old new
 summary_cut seed subs lines old new text is sent = record {
   text = sent.front;

@@ -5,7 +5,7 @@ use Rattle.lawful_run.specs.Setup.{solo}
 use Rattle.lawful_run.specs.Report.{report_text}
 use Rattle.lawful_run.specs.Trace.{answered_report, epochs_told, slots_of}
 use Rattle.lawful_run.proofs.OneRun.{run_is_one}
-use Rattle.solo_run.specs.Report.{IsSoloReport, slices}
+use Rattle.solo_command.specs.Report.{IsSoloReport, slices}
 use Rattle.trace_run.specs.Report.{IsText}
 
 -- it is that of the sequential gateway

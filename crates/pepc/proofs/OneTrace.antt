@@ -5,9 +5,9 @@ use Rattle.std.specs.List.{join_with_byte, slice_split}
 use Rattle.std.proofs.lemmas.Bool.Decides.{nat_tests}
 use Rattle.std.proofs.lemmas.List.Splits.{join_with_byte-slice_split}
 use Rattle.pc_outside.specs.Limits.{line_max, newline}
-use Rattle.audit_reading.specs.Progress.{HasRead}
-use Rattle.audit_reading.specs.Texts as texts
-use Rattle.audit_reading.specs.Texts.{Text, texts_within}
+use Rattle.pc_outside.specs.InputRead.{HasRead}
+use Rattle.pc_outside.specs.Texts as texts
+use Rattle.pc_outside.specs.Texts.{Text, texts_within}
 use Rattle.trace_lines.specs.Input as input
 use Rattle.trace_lines.specs.Input.{Input, input_within}
 use Rattle.trace_lines.specs.Line.{Line}
@@ -15,11 +15,11 @@ use Rattle.trace_lines.specs.Meaning.{line_meaning}
 use Rattle.trace_lines.specs.declared.bad.LineBad.{LineBad}
 use Rattle.trace_lines.proofs.InputLemmas.{at_end}
 use Rattle.record_codec.specs.Saved.{FileState}
-use Rattle.state_run.specs.Laws.{LinesSayOneState}
+use Rattle.record_codec.specs.StateLaws.{LinesSayOneState}
 use Rattle.trace_run.specs.Beginnings.{input_from}
-use Rattle.resume_laws.specs.Resumes.{HasState, begins_at}
-use Rattle.resume_laws.proofs.RunLemmas.{behind_state}
-use Rattle.resume_laws.proofs.StateLemmas.{one_state}
+use Rattle.solo_command.specs.Resumes.{HasState, begins_at}
+use Rattle.solo_command.proofs.ResumeRuns.{behind_state}
+use Rattle.solo_command.proofs.StateLemmas.{one_state}
 
 -- ---- what ends has fewer octets than are looked at
 

@@ -7,18 +7,18 @@ use Rattle.pc_outside.proofs.ToldLemmas.{told_map, told_then}
 use Rattle.trace_lines.specs.Input.{Input, ended}
 use Rattle.lawful_run.specs.Report.{Report}
 use Rattle.record_codec.specs.Saved.{FileState}
-use Rattle.state_run.specs.Laws.{LinesSayOneState}
-use Rattle.state_run.specs.Reading.{HasFound, IsBadState}
-use Rattle.audit_reading.specs.Texts as texts
+use Rattle.record_codec.specs.StateLaws.{LinesSayOneState}
+use Rattle.record_codec.specs.StateReading.{HasFound, IsBadState}
+use Rattle.pc_outside.specs.Texts as texts
 use Rattle.trace_run.specs.declared.status.Status.{Status}
 use Rattle.trace_run.specs.declared.status.Status.TheVariants as status
 use Rattle.trace_run.specs.Beginnings.{Beginning, behind, input_from}
 use Rattle.trace_run.specs.Report.{IsCutText, IsDone, IsEpochsText, IsFaultText, IsText, ReportsFrom, RunsFrom}
 use Rattle.trace_run.proofs.EndingLemmas.{complete}
-use Rattle.resume_run.specs.Reports.{IsResumed}
-use Rattle.resume_laws.specs.Resumes.{CompletesResume, HasState, Resumed, Resumes, ResumesAs, StoppedFirst, begins_at}
+use Rattle.solo_command.specs.Reports.{IsResumed}
+use Rattle.solo_command.specs.Resumes.{CompletesResume, HasState, Resumed, Resumes, ResumesAs, StoppedFirst, begins_at}
 use Rattle.pepc.proofs.OneTrace.{ends_alike}
-use Rattle.resume_laws.proofs.StateLemmas.{none_stopped, told_exactly}
+use Rattle.solo_command.proofs.StateLemmas.{none_stopped, told_exactly}
 
 -- ---- reports that are allowed by one relation are allowed by a wider one, and a failure is one of more calls
 

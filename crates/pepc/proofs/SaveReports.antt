@@ -6,7 +6,7 @@ use Rattle.trace_lines.specs.Input.{Stop, big, ended, input_of}
 use Rattle.trace_run.specs.declared.status.Status.{Status}
 use Rattle.trace_run.specs.declared.status.Status.TheVariants as status
 use Rattle.trace_run.specs.Report.{IsBad, IsDone, IsLong}
-use Rattle.save_run.specs.Saves.{Saves, SavesAs}
+use Rattle.save_command.specs.Saves.{Saves, SavesAs}
 
 -- memory ran out before anything was read
 pub nothing_saved : (start sink : Option (List ℕ)) → Saves status.NoMemory start start sink sink

@@ -1,7 +1,7 @@
 -- The report of a made trace is counted epoch by epoch.
 use Rattle.std.proofs.Common.{◌≡◌, ℕ, ◌+◌, ◌≤◌, false, List, [], ◌∷◌, ◌++◌, Option, None, Some, MatchOption, inl, inr, length, sym, ap, refl, subst, ◌∙◌, arith, append_assoc, append-nil, length-append}
-use Rattle.entry_counts.specs.Counts.{Counts as EntryCounts, all_held, counts_of, nothing}
-use Rattle.entry_counts.proofs.CountLemmas.{counts_of-append}
+use Rattle.report_lines.specs.Counts.{Counts as EntryCounts, all_held, counts_of, nothing}
+use Rattle.report_lines.proofs.CountLemmas.{counts_of-append}
 use Rattle.trace_lines.specs.Input.{ended}
 use Rattle.trace_lines.specs.Line.{Line}
 use Rattle.trace_maker.specs.Generated.{made}
@@ -15,12 +15,12 @@ use Rattle.trace_run.specs.declared.ending.Ending.TheVariants.{Ended}
 use Rattle.trace_run.specs.Report.{IsText, IsWholeLines}
 use Rattle.trace_run.specs.Reporting.{IsDue, Standing}
 use Rattle.trace_run.specs.Takers.{IsNextOf}
-use Rattle.solo_run.specs.declared.solo.Solo.{Solo}
+use Rattle.solo_command.specs.declared.solo.Solo.{Solo}
 use Rattle.pepc.specs.Counting.{CountedSoFar, Counting, CountsMore}
-use Rattle.solo_run.specs.Entries.{text_line}
+use Rattle.solo_command.specs.Entries.{text_line}
 use Rattle.pepc.specs.Make.{IsCounted}
-use Rattle.solo_run.specs.Progress.{HasAnswered}
-use Rattle.solo_run.specs.Report.{IsSoloReport}
+use Rattle.solo_command.specs.Progress.{HasAnswered}
+use Rattle.solo_command.specs.Report.{IsSoloReport}
 
 -- what is said of an option that is known
 pub at_some : {A : Type 0} (P : Type 0) (Q : A → Type 0) (o : Option A) (value : A) → o ≡ Some value

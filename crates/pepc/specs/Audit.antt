@@ -1,18 +1,16 @@
 -- What a run of `audit` wrote, by its status.
-use Rattle.std.specs.Prelude.{◌≡◌, ℕ, ◌⊎◌, Bool, List, [], ◌++◌, Option, None, Some, Result, Ok, Err, if◌then◌else◌}
+use Rattle.std.specs.Prelude.{◌≡◌, ℕ, ◌⊎◌, Bool, List, [], Option, None, Some, if◌then◌else◌}
 use Rattle.std.specs.Io.KnownBytes.{Appends}
 use Rattle.lawful_run.specs.Setup.{Setup, sliced, solo}
-use Rattle.audit_reading.specs.Progress.{IsReadWhole, IsTaken}
-use Rattle.audit_reading.specs.Texts.{big, long, texts_of}
-use Rattle.audit_run.specs.Findings.{Finds}
-use Rattle.audit_run.specs.declared.auditing.Audited.{Audited}
-use Rattle.audit_run.specs.declared.auditing.Audited.TheVariants as audited
-use Rattle.audit_why.specs.Refuting.{SaysFinding}
+use Rattle.pc_outside.specs.InputRead.{IsReadWhole, IsTaken}
+use Rattle.pc_outside.specs.Texts.{big, long, texts_of}
+use Rattle.audit_core.specs.declared.auditing.Audited.{Audited}
+use Rattle.audit_core.specs.declared.auditing.Audited.TheVariants as audited
+use Rattle.audit_core.specs.Report.{SaysPart, SaysWhole}
 use Rattle.trace_run.specs.declared.status.Status.{Status}
 use Rattle.trace_run.specs.declared.status.Status.TheVariants as status
 use Rattle.trace_run.specs.Report.{IsDone}
 use Rattle.pc_outside.specs.WhereTold.{WhereTold}
-use Rattle.pc_outside.specs.declared.writing.WriteFault.{WriteFault}
 
 -- the gateway whose report it should be
 abbrev pub audit_setup : Bool → ℕ → ℕ → ℕ → Setup
@@ -26,23 +24,6 @@ status_of audited.WriteFault = status.WriteFault
 status_of audited.NoMemory = status.NoMemory
 status_of audited.LineLong = status.LineLong
 status_of audited.TooLong = status.TooLong
-
--- what a run comes to, by what is found and whether it was written
-abbrev pub settled_as : Option ℕ → Result Unit WriteFault → Status
-settled_as found (Err fault) = status.WriteFault
-settled_as None (Ok written) = status.Ok
-settled_as (Some k) (Ok written) = status.Refuted
-
--- the text says what is found of octets, and where the report is refuted, if that is asked for
-pub record SaysWhole (why : Bool) (setup : Setup) (octets text : List ℕ) (found : Option ℕ) : Type 0 where
-  pub finds : Finds setup (texts_of octets).lines found
-  pub says : SaysFinding why setup (texts_of octets).lines found text
-
--- it is a prefix of that
-pub record SaysPart (why : Bool) (setup : Setup) (octets text : List ℕ) : Type 0 where
-  pub found : Option ℕ
-  pub more : List ℕ
-  pub whole : SaysWhole why setup octets (text ++ more) found
 
 -- An audit stops at no bad line, and its input is no capture.
 abbrev pub AuditReports : Status → Bool → Setup → List ℕ → List ℕ → List ℕ → Type 0

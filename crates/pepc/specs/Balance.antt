@@ -1,9 +1,9 @@
 -- What a run of `balance` wrote, by its status.
 use Rattle.std.specs.Prelude.{◌≡◌, ℕ, List, [], Option}
 use Rattle.std.specs.Io.KnownBytes.{Appends}
-use Rattle.balance_run.specs.Report.{Reports}
-use Rattle.balance_run.specs.declared.balancing.Balanced.{Balanced}
-use Rattle.balance_run.specs.declared.balancing.Balanced.TheVariants as balanced
+use Rattle.balance_plan.specs.Report.{Reports}
+use Rattle.balance_plan.specs.declared.balancing.Balanced.{Balanced}
+use Rattle.balance_plan.specs.declared.balancing.Balanced.TheVariants as balanced
 use Rattle.trace_run.specs.declared.status.Status.{Status}
 use Rattle.trace_run.specs.declared.status.Status.TheVariants as status
 use Rattle.pc_outside.specs.WhereTold.{WhereTold}

@@ -1,13 +1,13 @@
 -- The lines of a made trace are answered, and the text of each whole epoch is counted.
 use Rattle.std.specs.Prelude.{◌≡◌, ℕ, ◌+◌, ◌≤◌, false, List, ◌++◌, length}
-use Rattle.entry_counts.specs.Counts.{Counts as EntryCounts, all_held, counts_of, plus}
+use Rattle.report_lines.specs.Counts.{Counts as EntryCounts, all_held, counts_of, plus}
 use Rattle.trace_lines.specs.Line.{Line}
 use Rattle.trace_maker.specs.Numbering.{AreInOrder}
 use Rattle.trace_run.specs.declared.epoch.Size.{Size}
 use Rattle.trace_run.specs.Reporting.{Standing}
-use Rattle.solo_run.specs.declared.solo.Solo.{Solo}
-use Rattle.solo_run.specs.Progress.{HasAnswered}
-use Rattle.solo_run.specs.Report.{IsSoloReport}
+use Rattle.solo_command.specs.declared.solo.Solo.{Solo}
+use Rattle.solo_command.specs.Progress.{HasAnswered}
+use Rattle.solo_command.specs.Report.{IsSoloReport}
 
 -- counts grow by those of a text
 abbrev pub CountsMore : EntryCounts → EntryCounts → List ℕ → Type 0

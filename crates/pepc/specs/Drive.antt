@@ -1,9 +1,9 @@
 -- The schedule that a command line asks for.
 use Rattle.std.specs.Prelude.{[]}
 use Rattle.command_words.specs.declared.jobs.Lanes.{Lanes}
-use Rattle.command_words.specs.declared.turns.Turns as words
-use Rattle.command_words.specs.declared.turns.Turns.TheVariants as asked
-use Rattle.drive_run.specs.Driven.{Schedule, Turns, drawn, listed}
+use Rattle.command_words.specs.declared.turns.AskedTurns as words
+use Rattle.command_words.specs.declared.turns.AskedTurns.TheVariants as asked
+use Rattle.drive_command.specs.Driven.{Schedule, Turns, drawn, listed}
 
 -- where no turns are asked for, no worker has one
 abbrev pub turns_asked : words.Turns → Turns

@@ -5,14 +5,14 @@ use Rattle.command_words.specs.declared.jobs.Job.TheVariants as job
 use Rattle.pcap_form.specs.Capture as capture
 use Rattle.trace_lines.specs.Input.{ended, input_of}
 use Rattle.trace_run.specs.declared.status.Status.{Status}
-use Rattle.drive_run.specs.Driven.{IsDrivenReport}
+use Rattle.drive_command.specs.Driven.{IsDrivenReport}
 use Rattle.lawful_run.specs.Trace.{IsReport}
-use Rattle.audit_run.specs.Findings.{Finds}
-use Rattle.audit_reading.specs.Texts as texts
-use Rattle.audit_reading.specs.Said.{HasNoEntry, report_texts}
-use Rattle.balance_run.specs.Said.{IsTrace}
-use Rattle.resume_laws.specs.Resumes.{CompletesResume, Resumes}
-use Rattle.save_run.specs.Saves.{Saves}
+use Rattle.audit_core.specs.Findings.{Finds}
+use Rattle.pc_outside.specs.Texts as texts
+use Rattle.audit_core.specs.Said.{HasNoEntry, report_texts}
+use Rattle.balance_plan.specs.Said.{IsTrace}
+use Rattle.solo_command.specs.Resumes.{CompletesResume, Resumes}
+use Rattle.save_command.specs.Saves.{Saves}
 use Rattle.pepc.specs.Audit.{Audits, Settles, audit_setup}
 use Rattle.pepc.specs.Balance.{Balances}
 use Rattle.pepc.specs.Drive.{schedule_asked}
@@ -20,7 +20,7 @@ use Rattle.pepc.specs.Export.{Exports}
 use Rattle.pepc.specs.Import.{Imports}
 use Rattle.pepc.specs.Make.{Makes}
 use Rattle.pepc.specs.Replay.{setup_asked}
-use Rattle.solo_run.specs.Report.{IsSoloReport}
+use Rattle.solo_command.specs.Report.{IsSoloReport}
 use Rattle.trace_run.specs.Report.{IsDone, Runs}
 
 -- The job that is done without threads: `replay` starts some, so it is none.

@@ -1,14 +1,14 @@
 -- What a made trace, or its summary, leaves.
 use Rattle.std.specs.Prelude.{◌≡◌, ℕ, ◌<◌, Bool, true, false, List, [], ◌++◌, length, Option}
 use Rattle.std.specs.Io.KnownBytes.{Appends}
-use Rattle.entry_counts.specs.Counts.{Counts, all_held, counts_of}
-use Rattle.entry_counts.specs.Summary.{summary_text}
+use Rattle.report_lines.specs.Counts.{Counts, all_held, counts_of}
+use Rattle.report_lines.specs.Summary.{summary_text}
 use Rattle.trace_lines.specs.Input.{input_of}
 use Rattle.trace_lines.specs.Line.{Line}
 use Rattle.trace_maker.specs.Generated.{made, text_of}
 use Rattle.trace_run.specs.declared.status.Status.{Status}
 use Rattle.trace_run.specs.declared.status.Status.TheVariants as status
-use Rattle.solo_run.specs.Report.{IsSoloReport}
+use Rattle.solo_command.specs.Report.{IsSoloReport}
 use Rattle.trace_run.specs.Report.{IsText}
 
 -- the counts are those of the report that one thread gives of these lines
@@ -35,9 +35,9 @@ pub record IsFront (lines : List Line) (text : List ℕ) : Type 0 where
   pub parts : lines ≡ front ++ rest
   pub written : text ≡ text_of front
 
-abbrev pub IsMakeFront : Bool → List Line → List ℕ → Type 0
-IsMakeFront false lines text = IsFront lines text
-IsMakeFront true lines text = text ≡ []
+abbrev pub IsMakePrefix : Bool → List Line → List ℕ → Type 0
+IsMakePrefix false lines text = IsFront lines text
+IsMakePrefix true lines text = text ≡ []
 
 -- a prefix of the text, and not all
 pub record IsMakeCut (summary : Bool) (lines : List Line) (text : List ℕ) : Type 0 where
@@ -51,7 +51,7 @@ Made status.Ok summary lines text = IsMakeText summary lines text
 Made status.Usage summary lines text = ⊥
 Made status.ReadFault summary lines text = ⊥
 Made status.WriteFault summary lines text = IsMakeCut summary lines text
-Made status.NoMemory summary lines text = IsMakeFront summary lines text
+Made status.NoMemory summary lines text = IsMakePrefix summary lines text
 Made status.BadLine summary lines text = ⊥
 Made status.LineLong summary lines text = ⊥
 Made status.TooLong summary lines text = ⊥

@@ -1,12 +1,10 @@
-//! A run of `audit`: the status of what `audit_run` does, or what is told with the place of a break.
+//! A run of `audit`: the status of what audit_core does.
 ghost use Rattle.std.specs.Prelude.{◌≡◌, ◌≤◌};
 ghost use Rattle.pc_outside.specs.Faults.{Rises};
-ghost use Rattle.audit_reading.specs.Setups.{IsSetup, setup_of};
+ghost use Rattle.audit_core.specs.Setups.{IsSetup, setup_of};
 ghost use Rattle.pepc.specs.Audit.{Audits, status_of};
 
-use crate::refuting::audit_with_place;
-use audit_reading::Setup;
-use audit_run::Audited;
+use audit_core::{Audited, Setup};
 use pc_outside::{Sink, Source};
 use std::alloc::Global;
 use trace_run::Status;
@@ -31,11 +29,7 @@ pub fn audit<S: Source, K: Sink>(
     ensures read_fault { result ≡ Status.ReadFault → Rises (S.faults source.old) (S.faults source.new) }
     ensures write_fault { result ≡ Status.WriteFault → Rises (K.faults sink.old) (K.faults sink.new) }
 {
-    if why {
-        audit_with_place(alloc, setup, source, sink)
-    } else {
-        status_of(audit_run::audit(alloc, setup, source, sink))
-    }
+    status_of(audit_core::audit(alloc, setup, why, source, sink))
 }
 
 fn status_of(audited: Audited) -> Status

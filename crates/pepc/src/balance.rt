@@ -1,9 +1,9 @@
-//! A run of `balance`: the status of what `balance_run` does.
+//! A run of `balance`: the status of what `balance_plan` does.
 ghost use Rattle.std.specs.Prelude.{◌≡◌, ◌≤◌};
 ghost use Rattle.pc_outside.specs.Faults.{Rises};
 ghost use Rattle.pepc.specs.Balance.{Balances, status_of};
 
-use balance_run::Balanced;
+use balance_plan::Balanced;
 use pc_outside::{Sink, Source};
 use std::alloc::Global;
 use trace_run::Status;
@@ -29,7 +29,7 @@ pub fn balance<S: Source, K: Sink>(
     ensures read_fault { result ≡ Status.ReadFault → Rises (S.faults source.old) (S.faults source.new) }
     ensures write_fault { result ≡ Status.WriteFault → Rises (K.faults sink.old) (K.faults sink.new) }
 {
-    status_of(balance_run::balance(alloc, slices, most, source, sink))
+    status_of(balance_plan::balance(alloc, slices, most, source, sink))
 }
 
 fn status_of(balanced: Balanced) -> Status

@@ -1,16 +1,16 @@
 //! The command `drive`.
 ghost use Rattle.std.specs.Prelude.{◌≡◌, ◌≤◌, ℕ};
 ghost use Rattle.command_words.specs.Job.{LanesInRange, TurnsInRange};
-ghost use Rattle.drive_run.specs.Driven.{IsDrivenReport, turns_in};
+ghost use Rattle.drive_command.specs.Driven.{IsDrivenReport, turns_in};
 ghost use Rattle.pc_outside.specs.Faults.{Rises};
 ghost use Rattle.pepc.specs.Drive.{schedule_asked, turns_asked};
-ghost use Rattle.schedule_run.specs.TurnsTold.{AreWorkers};
+ghost use Rattle.epoch_schedule.specs.TurnsTold.{AreWorkers};
 ghost use Rattle.trace_run.specs.Report.{Runs};
 
-use command_words::{Lanes, Turns as AskedTurns};
-use drive_run::Driver;
+use command_words::{AskedTurns, Lanes};
+use drive_command::Driver;
+use epoch_schedule::Turns;
 use pc_outside::{Sink, Source};
-use schedule_run::Turns;
 use std::alloc::Global;
 use trace_run::{Status, run_report};
 

@@ -2,13 +2,14 @@
 ghost use Rattle.std.specs.Prelude.{◌≡◌, ◌≤◌, ◌++◌, [], Err, OnOk, OnErr, IfOk};
 ghost use Rattle.std.specs.Io.KnownBytes.{Appends};
 ghost use Rattle.pc_outside.specs.Faults.{Rises};
-ghost use Rattle.pc_outside.specs.Fronts.{AppendsFront};
+ghost use Rattle.pc_outside.specs.Fronts.{AppendsPrefix};
 ghost use Rattle.pcap_form.specs.Export.{header};
 ghost use Rattle.pepc.specs.Export.{Exports};
 
 use pc_outside::{Sink, Source};
 use pcap_form::{HEADER, push_record};
 use std::alloc::{AllocError, Global};
+use text_fields::Text;
 use trace_lines::TraceLine;
 use trace_run::{LineTaker, Status, Unwritten, run_lines, status_at, status_without, write_octets};
 
@@ -18,24 +19,24 @@ const PIECE_LEN: usize = 0x1_0000;
 // What of a capture waits to be written.
 #[derive(Drop)]
 struct Capture {
-    waiting: Vec<u8>,
+    waiting: Text,
 }
 
 impl Capture {
     // The header waits.
     fn new(alloc: Global) -> Result<Capture, AllocError>
-        ensures { IfOk result (λ capture. capture.waiting.items ≡ header) }
+        ensures { IfOk result (λ capture. capture.waiting ≡ header) }
     {
-        let mut waiting = Vec::new(alloc);
+        let mut waiting = Text::new(alloc);
         waiting.extend_from_slice(&HEADER)?;
         Ok(Capture { waiting })
     }
 
     // Writes what waits, and empties it.
     fn write<K: Sink>(&mut self, sink: &mut K) -> Result<(), Unwritten>
-        ensures moved { OnOk result (Appends (K.written sink.old) (K.written sink.new) self.old.waiting.items) }
-        ensures emptied { OnOk result (self.new.waiting.items ≡ []) }
-        ensures cut { OnErr result (AppendsFront (K.written sink.old) (K.written sink.new) self.old.waiting.items) }
+        ensures moved { OnOk result (Appends (K.written sink.old) (K.written sink.new) self.old.waiting) }
+        ensures emptied { OnOk result (self.new.waiting ≡ []) }
+        ensures cut { OnErr result (AppendsPrefix (K.written sink.old) (K.written sink.new) self.old.waiting) }
         ensures no_other { OnErr result (result ≡ Err Unwritten.WriteFault) }
 
         ensures later { K.faults sink.old ≤ K.faults sink.new }
@@ -50,7 +51,7 @@ impl Capture {
 impl LineTaker for Capture {
     ghost use Rattle.pepc.specs.ExportProgress.{BreaksOff, Captures};
 
-    ghost represents = { λ first now done latest. Captures now.waiting.items done };
+    ghost represents = { λ first now done latest. Captures now.waiting done };
 
     ghost begins = { λ first. 1 };
 
@@ -64,7 +65,7 @@ impl LineTaker for Capture {
         sink: &mut K,
     ) -> Result<(), Unwritten> {
         push_record(&mut self.waiting, line)?;
-        if self.waiting.len() < PIECE_LEN {
+        if self.waiting.as_slice().len() < PIECE_LEN {
             return Ok(());
         }
         self.write(sink)

@@ -5,7 +5,7 @@ ghost use Rattle.trace_lines.specs.Input.{Input};
 ghost use Rattle.lawful_run.specs.Ledger.{IsPartition};
 ghost use Rattle.lawful_run.specs.Trace.{IsReport, slots_of};
 ghost use Rattle.pepc.specs.Replay.{setup_asked};
-ghost use Rattle.solo_run.specs.Report.{IsSoloReport};
+ghost use Rattle.solo_command.specs.Report.{IsSoloReport};
 ghost use Rattle.trace_run.specs.Report.{IsText};
 
 /// The report is one function of the lines and of why they stop: no two texts are reports of the

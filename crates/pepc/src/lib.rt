@@ -10,7 +10,6 @@ mod import;
 mod laws;
 mod make;
 mod plain;
-mod refuting;
 mod replay;
 mod resume;
 mod summary;

@@ -4,8 +4,8 @@ ghost use Rattle.pc_outside.specs.Faults.{Rises};
 ghost use Rattle.pepc.specs.Make.{Makes};
 
 use crate::summary::counted;
-use entry_counts::push_summary;
 use pc_outside::{Sink, WriteFault, write_whole};
+use report_lines::push_summary;
 use std::alloc::{AllocError, Global};
 use trace_maker::MakeNo;
 use trace_run::Status;

@@ -12,12 +12,12 @@ use crate::export::export;
 use crate::import::import;
 use crate::make::make;
 use crate::resume::resume;
-use audit_reading::Setup;
+use audit_core::Setup;
 use command_words::{Job, job};
 use pc_outside::{Sink, Source};
-use save_run::save;
-use solo_run::run_solo;
-use state_run::lines_say_one_state;
+use record_codec::lines_say_one_state;
+use save_command::save;
+use solo_command::run_solo;
 use std::alloc::{AllocError, Global};
 use trace_run::Status;
 

@@ -6,10 +6,9 @@ ghost use Rattle.pc_outside.specs.Faults.{Rises};
 ghost use Rattle.pepc.specs.Replay.{setup_asked};
 ghost use Rattle.trace_run.specs.Report.{Runs};
 
-use block_reading::run_report_in_blocks;
 use command_words::Lanes;
 use pc_outside::{Sink, Source};
-use replay_run::{Pace, Replayer};
+use replay_command::{Patience, Replayer, run_report_in_blocks};
 use std::alloc::Global;
 use std::sync::Wait;
 use std::thread::Threads;
@@ -21,7 +20,7 @@ pub fn replay<R: Threads + Wait + Sync, S: Source, K: Sink>(
     rt: &R,
     alloc: Global,
     lanes: Lanes,
-    pace: Pace,
+    pace: Patience,
     places: bool,
     source: &mut S,
     sink: &mut K,

@@ -4,14 +4,13 @@ ghost use Rattle.std.specs.Io.KnownBytes.{prepend_known};
 ghost use Rattle.pc_outside.specs.Faults.{Rises};
 ghost use Rattle.pc_outside.specs.WhereTold.{WhereTold};
 ghost use Rattle.trace_run.specs.Report.{RunsFrom};
-ghost use Rattle.state_run.specs.Reading.{HasFound};
-ghost use Rattle.resume_run.specs.Reports.{IsResumed};
-ghost use Rattle.resume_laws.specs.Resumes.{Resumes, StoppedFirst, begins_at};
+ghost use Rattle.record_codec.specs.StateReading.{HasFound};
+ghost use Rattle.solo_command.specs.Reports.{IsResumed};
+ghost use Rattle.solo_command.specs.Resumes.{Resumes, StoppedFirst, begins_at};
 
 use pc_outside::{LineBuf, Sink, Source};
-use record_codec::StateFile;
-use solo_run::Resumer;
-use state_run::{StateRead, read_state};
+use record_codec::{StateFile, StateRead, read_state};
+use solo_command::Resumer;
 use std::alloc::{AllocError, Global};
 use trace_run::{Status, run_report_behind};
 

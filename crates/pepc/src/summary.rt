@@ -9,8 +9,8 @@ ghost use Rattle.trace_run.specs.Takers.{IsNextOf};
 ghost use Rattle.pepc.specs.Counting.{CountedSoFar};
 ghost use Rattle.pepc.specs.Make.{IsCounted};
 
-use entry_counts::EntryCounts;
-use solo_run::Solo;
+use report_lines::EntryCounts;
+use solo_command::Solo;
 use std::alloc::{AllocError, Global};
 use text_fields::Text;
 use trace_lines::{TraceLine, push_text};

@@ -9,8 +9,8 @@ use crate::plain::do_job;
 use crate::replay::replay;
 use command_words::{Job, job};
 use pc_outside::{Sink, Source};
-use replay_run::Pace;
-use state_run::lines_say_one_state;
+use record_codec::lines_say_one_state;
+use replay_command::Patience;
 use std::alloc::{AllocError, Global};
 use std::sync::Wait;
 use std::thread::Threads;
@@ -44,7 +44,7 @@ fn run_job<R: Threads + Wait + Sync, S: Source, K: Sink>(
             linger,
             places,
         } => {
-            let pace = Pace { patience, linger };
+            let pace = Patience { patience, linger };
             replay(rt, alloc, lanes, pace, places, source, sink)
         }
         other => do_job(alloc, other, source, sink),

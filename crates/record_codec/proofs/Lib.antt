@@ -12,3 +12,8 @@ pub mod SlotLoops
 pub mod MadeLemmas
 pub mod WholeLemmas
 pub mod PutLemmas
+pub mod PieceLists
+pub mod StateLineLemmas
+pub mod TextLemmas
+pub mod ReadLemmas
+pub mod SavedLemmas

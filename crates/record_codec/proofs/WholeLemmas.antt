@@ -19,8 +19,8 @@ use Rattle.bearer_state.proofs.Few.{few_bearers}
 use Rattle.packet_steps.specs.Standing.{CountersState}
 use Rattle.packet_steps.specs.Parts.{PartsState, IsMadeOf, buckets_fit, fit, held_fit, may_fit, pieces_fit, were_asked}
 use Rattle.subscriber.specs.Standing.{SubscriberState}
-use Rattle.parts_laws.proofs.FitLemmas.{fitting_open}
-use Rattle.parts_laws.proofs.PieceLemmas.{lives_are}
+use Rattle.subscriber.proofs.AlikeFits.{fitting_open}
+use Rattle.subscriber.proofs.PieceLemmas.{lives_are}
 use Rattle.record_codec.specs.declared.fault.Fault.{Fault}
 use Rattle.record_codec.specs.declared.fault.Fault.TheVariants as fault
 use Rattle.record_codec.specs.Saved.{SavedSubscriber, FileState, IsFile, IsResting, all_saved, parts_of, imsi_of}

@@ -22,8 +22,8 @@ use Rattle.packet_steps.specs.Rows.{HeldRow}
 use Rattle.packet_steps.specs.Standing.{CountersState}
 use Rattle.packet_steps.specs.Parts.{PartsState, buckets_in, fit}
 use Rattle.subscriber.specs.Standing.{SubscriberState}
-use Rattle.parts_laws.specs.Alike.{life_of}
-use Rattle.parts_laws.specs.Charging.{AreOpen}
+use Rattle.subscriber.specs.Alike.{life_of}
+use Rattle.subscriber.specs.Charging.{AreOpen}
 use Rattle.address_book.specs.Book.{IsBook}
 
 -- a subscriber as it is saved: its IMSI, its session, how many commands and packets came, the slice that it is bound

@@ -42,7 +42,7 @@ fn slice_at(input: &mut Input<'_>) -> Result<SliceNo, Fault>
 
 /// A subscriber with its IMSI.
 #[derive(Drop)]
-pub(crate) struct Found {
+pub(crate) struct FoundSubscriber {
     pub(crate) imsi: Imsi,
     pub(crate) subscriber: Subscriber,
 }
@@ -54,7 +54,7 @@ fn subscriber_at(
     moment: Moment,
     slot: Slot,
     input: &mut Input<'_>,
-) -> Result<Found, Fault>
+) -> Result<FoundSubscriber, Fault>
     requires { moment < 2 ^ 50 }
     ensures read { Reads (λ found. saved found.imsi found.subscriber) result
         (subscriber_at moment slot input.old.rest.now) input.new.rest.now }
@@ -80,7 +80,7 @@ fn subscriber_at(
                 packets,
                 destination,
             };
-            Ok(Found { imsi, subscriber })
+            Ok(FoundSubscriber { imsi, subscriber })
         }
     }
 }

@@ -17,11 +17,11 @@ use Rattle.lawful_run.specs.Setup.{Setup, slices_of, solo}
 use Rattle.lawful_run.specs.Trace.{epochs_told}
 use Rattle.report_laws.proofs.WithoutPlaces.{left_out}
 use Rattle.lawful_run.proofs.InRange.{told_few, told_in_range}
-use Rattle.audit_run.specs.Findings.{IsOf}
-use Rattle.audit_reading.specs.Said.{marker, trace_from}
-use Rattle.audit_reading.specs.Texts.{Text}
-use Rattle.audit_run.proofs.OneFinding.{one_finding}
-use Rattle.audit_reading.proofs.SaidLemmas.{report_behind, trace_before}
+use Rattle.audit_core.specs.Findings.{IsOf}
+use Rattle.audit_core.specs.Said.{marker, trace_from}
+use Rattle.pc_outside.specs.Texts.{Text}
+use Rattle.audit_core.proofs.OneFinding.{one_finding}
+use Rattle.audit_core.proofs.SaidLemmas.{report_behind, trace_before}
 use Rattle.report_laws.specs.Confirming.{AreHeld, IsOwnReport, OwnReportIsConfirmed, OwnReportIsNeverRefuted, audited, lines_of}
 use Rattle.report_laws.specs.Shown.{report_shown}
 use Rattle.report_laws.proofs.EntriesIn.{entries_in}

@@ -8,11 +8,11 @@ use Rattle.lawful_run.specs.Report.{epoch_entries}
 use Rattle.trace_run.specs.Report.{IsText, Reports}
 use Rattle.trace_run.specs.declared.status.Status.{Status}
 use Rattle.trace_run.specs.declared.status.Status.TheVariants as status
-use Rattle.resume_run.specs.Gateway.{no_subscribers}
-use Rattle.resume_run.specs.Reports.{Gives}
-use Rattle.resume_laws.specs.Law.{ResumedRunsGoOn, TellsAll}
-use Rattle.resume_laws.proofs.LawTexts.{texts_split}
-use Rattle.solo_run.specs.Report.{IsSoloReport}
+use Rattle.solo_command.specs.Gateway.{no_subscribers}
+use Rattle.solo_command.specs.Reports.{Gives}
+use Rattle.solo_command.specs.Law.{ResumedRunsGoOn, TellsAll}
+use Rattle.solo_command.proofs.LawTexts.{texts_split}
+use Rattle.solo_command.specs.Report.{IsSoloReport}
 use Rattle.report_laws.specs.Resuming.{CutRunsGoOn}
 
 given_text : (input : Input) (text : List ℕ) → IsText IsSoloReport false input text

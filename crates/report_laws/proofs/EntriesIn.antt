@@ -36,9 +36,9 @@ use Rattle.report_lines.specs.declared.entry.LineEntry.TheVariants as line
 use Rattle.report_lines.specs.declared.entry.Refusal.{Refusal}
 use Rattle.demux.specs.Ranges.{IsCommandInRange, IsInRange, IsOctet, IsPacketInRange}
 use Rattle.report_laws.specs.Shown.{epoch_shown, report_shown}
-use Rattle.past_ranges.specs.Ranges.{ActiveIn, EventIn, PacketIn, PastIn}
-use Rattle.past_ranges.proofs.ChargesIn.{RowIn, open_in, rows_in}
-use Rattle.past_ranges.proofs.PastsIn.{new_in}
+use Rattle.lawful_run.specs.Ranges.{ActiveIn, EventIn, PacketIn, PastIn}
+use Rattle.lawful_run.proofs.ChargesIn.{RowIn, open_in, rows_in}
+use Rattle.lawful_run.proofs.PastsIn.{new_in}
 use Rattle.report_laws.proofs.EventsIn.{LedIn, MarkIn, ReplyIn, commands_most, led_in}
 use Rattle.report_laws.proofs.Marks.{Mark, epoch_marks, mark_told}
 use Rattle.demux.proofs.Small.{dropped, each_append, taken}

@@ -21,10 +21,10 @@ use Rattle.lawful_run.proofs.BookGrows.{book_grows_all}
 use Rattle.lawful_run.proofs.CutLines.{length-meant_from}
 use Rattle.lawful_run.proofs.EveryTrace.{with_brought}
 use Rattle.lawful_run.proofs.Growing.{brought-push, entries_from-push, epoch_slots, events_after-push}
-use Rattle.resume_run.specs.Gateway.{Gateway, Told, noted}
-use Rattle.resume_run.specs.Reports.{AnswersEpochs, is_of, own_told, reports_of, stop_told, told_epoch, with_stop}
-use Rattle.solo_run.specs.Report.{slices}
-use Rattle.solo_run.proofs.GatherLemmas.{no_rows}
+use Rattle.solo_command.specs.Gateway.{Gateway, Told, noted}
+use Rattle.solo_command.specs.Reports.{AnswersEpochs, is_of, own_told, reports_of, stop_told, told_epoch, with_stop}
+use Rattle.solo_command.specs.Report.{slices}
+use Rattle.solo_command.proofs.GatherLemmas.{no_rows}
 use Rattle.report_laws.proofs.InputsInOrder.{InOrder, StopAt, in_order_split, latest_in}
 use Rattle.report_laws.proofs.LinesAnswered.{LinesGo, Stands, TellAll, lines_go}
 

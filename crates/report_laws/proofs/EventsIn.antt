@@ -14,11 +14,11 @@ use Rattle.pc_base.specs.declared.reply.Reply.{Reply}
 use Rattle.report_lines.specs.Ranges.{IsEffect, IsEffected, IsOctets, IsVerdict}
 use Rattle.demux.specs.Ranges.{IsCommandInRange, IsOctet}
 use Rattle.report_laws.proofs.Marks.{Mark, marks}
-use Rattle.past_ranges.specs.Ranges.{EventIn, PacketIn, PastIn}
-use Rattle.past_ranges.proofs.Octets.{reply_some}
-use Rattle.past_ranges.proofs.PacketsIn.{judged_in}
-use Rattle.past_ranges.proofs.PastsIn.{command_in, learnt_now, packet_in, prefix_few}
-use Rattle.past_ranges.proofs.SessionsIn.{reply_small}
+use Rattle.lawful_run.specs.Ranges.{EventIn, PacketIn, PastIn}
+use Rattle.lawful_run.proofs.Octets.{reply_some}
+use Rattle.lawful_run.proofs.PacketsIn.{judged_in}
+use Rattle.lawful_run.proofs.PastsIn.{command_in, learnt_now, packet_in, prefix_few}
+use Rattle.lawful_run.proofs.SessionsIn.{reply_small}
 use Rattle.demux.proofs.Small.{Small, each_append}
 
 -- what events lead to

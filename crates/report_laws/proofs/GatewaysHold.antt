@@ -6,14 +6,14 @@ use Rattle.packet_steps.specs.Meters.{new_meter}
 use Rattle.packet_steps.proofs.NewLemmas.{new_stands}
 use Rattle.gate_model.specs.declared.event.Event.{Event}
 use Rattle.subscriber.specs.Standing.{Represents, SubscriberState, last_of, new_subscriber}
-use Rattle.demux.specs.Destinations.{home_slice}
+use Rattle.demux.specs.Destinations.{start_slice}
 use Rattle.demux.specs.declared.decision.Whose.TheVariants.{New}
 use Rattle.lawful_run.specs.Merging.{Histories}
-use Rattle.resume_run.specs.Gateway.{Gateway, admitting, no_subscribers}
-use Rattle.solo_run.specs.Places.{HasAt}
-use Rattle.solo_run.specs.Report.{slices}
-use Rattle.solo_run.proofs.PlaceLemmas.{has_at_last, has_at_map, has_at_more, has_at_other, has_at_set}
-use Rattle.solo_run.proofs.StoryLemmas.{later}
+use Rattle.solo_command.specs.Gateway.{Gateway, admitting, no_subscribers}
+use Rattle.solo_command.specs.Places.{HasAt}
+use Rattle.solo_command.specs.Report.{slices}
+use Rattle.solo_command.proofs.PlaceLemmas.{has_at_last, has_at_map, has_at_more, has_at_other, has_at_set}
+use Rattle.solo_command.proofs.StoryLemmas.{later}
 use Rattle.report_laws.proofs.SessionsKept.{SessionKept, new_kept}
 
 -- A subscriber represents the events of its slot, its charging records taken out. It is bound for a slice, none of its
@@ -32,10 +32,10 @@ pub record Holds (gateway : Gateway) (known : List (List ℕ)) (bound : ℕ → 
   pub each : (slot : ℕ) → slot < length known
       → HasAt gateway.subscribers slot (λ held. SlotHolds held slot (bound slot) latest (histories slot))
   pub none_beyond : (slot : ℕ) → length known ≤ slot → histories slot ≡ []
-  pub at_home : (slot : ℕ) → length known ≤ slot → bound slot ≡ home_slice slices slot
+  pub at_home : (slot : ℕ) → length known ≤ slot → bound slot ≡ start_slice slices slot
   pub few : (slot : ℕ) → length (histories slot) ≤ lines
 
-pub nothing_holds : (latest : ℕ) → Holds no_subscribers [] (home_slice slices) latest 0 (λ slot. [])
+pub nothing_holds : (latest : ℕ) → Holds no_subscribers [] (start_slice slices) latest 0 (λ slot. [])
 nothing_holds latest = record {
   same_book = refl;
   places = refl;
@@ -133,11 +133,11 @@ pub admitted_holds : (old : Gateway) (known : List (List ℕ)) (bound : ℕ → 
     → Holds (admitting slices (New imsi) old) (known ++ imsi ∷ []) bound latest lines histories
 admitted_holds old known bound latest lines histories imsi holds =
     let own = length old.book in
-    let next = new_subscriber own (home_slice slices own) in
+    let next = new_subscriber own (start_slice slices own) in
     let last : own ≡ length known = ap length holds.same_book in
     let more : length (known ++ imsi ∷ []) ≡ length known + 1 = length-append known (imsi ∷ []) in
     let new : SlotHolds next own (bound own) latest [] = record {
-      stands = new_represents own (home_slice slices own);
+      stands = new_represents own (start_slice slices own);
       kept = new_kept own;
       bound_for = sym (holds.at_home own (omega (arith, last)));
       in_order = tt;

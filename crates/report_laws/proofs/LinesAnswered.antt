@@ -42,12 +42,12 @@ use Rattle.lawful_run.specs.Outcomes.{effect_entry}
 use Rattle.lawful_run.specs.Trace.{meant_from, meant_next, settled_by}
 use Rattle.lawful_run.proofs.EveryTrace.{with_brought}
 use Rattle.lawful_run.proofs.Growing.{effects-append, rows-append}
-use Rattle.resume_run.specs.Answering.{Answers, Judges}
-use Rattle.resume_run.specs.Gateway.{AnswersAs, AnswersLine, AnswersLines, Commanded, Gateway, Told, admitting, answered, judged, noted}
-use Rattle.resume_run.specs.Reports.{is_of}
-use Rattle.solo_run.specs.Report.{slices}
-use Rattle.solo_run.proofs.GatherLemmas.{no_rows}
-use Rattle.solo_run.proofs.StoryLemmas.{later}
+use Rattle.solo_command.specs.Answering.{Answers, Judges}
+use Rattle.solo_command.specs.Gateway.{AnswersAs, AnswersLine, AnswersLines, Commanded, Gateway, Told, admitting, answered, judged, noted}
+use Rattle.solo_command.specs.Reports.{is_of}
+use Rattle.solo_command.specs.Report.{slices}
+use Rattle.solo_command.proofs.GatherLemmas.{no_rows}
+use Rattle.solo_command.proofs.StoryLemmas.{later}
 use Rattle.report_laws.proofs.KeptRanges.{CommandKept}
 use Rattle.report_laws.proofs.SessionsKept.{SessionKept}
 use Rattle.report_laws.proofs.CommandsKept.{DecisionKept, decision_kept}

@@ -26,12 +26,12 @@ use Rattle.lawful_run.specs.Report.{Report, entries_of, report_text, texts_of as
 use Rattle.lawful_run.specs.Setup.{Setup, slices_of}
 use Rattle.lawful_run.specs.Trace.{IsReport, epochs_told}
 use Rattle.lawful_run.proofs.InRange.{octets_in_range, told_few}
-use Rattle.audit_run.specs.Findings.{Finds}
-use Rattle.audit_reading.specs.Said.{marker, trace_from}
-use Rattle.audit_reading.specs.Texts as said
-use Rattle.audit_reading.specs.Texts.{Text, pieces_texts, texts_of, texts_within}
-use Rattle.audit_run.proofs.OneFinding.{one_finding}
-use Rattle.audit_reading.proofs.SaidLemmas.{NoMarker, some_text}
+use Rattle.audit_core.specs.Findings.{Finds}
+use Rattle.audit_core.specs.Said.{marker, trace_from}
+use Rattle.pc_outside.specs.Texts as said
+use Rattle.pc_outside.specs.Texts.{Text, pieces_texts, texts_of, texts_within}
+use Rattle.audit_core.proofs.OneFinding.{one_finding}
+use Rattle.audit_core.proofs.SaidLemmas.{NoMarker, some_text}
 use Rattle.report_laws.specs.Confirming.{IsOwnReport, IsOwnText, OwnTextIsConfirmed, OwnTextIsNeverRefuted, audited, audited_octets, lines_of}
 use Rattle.report_laws.specs.Ranges.{EntriesAreInRange}
 use Rattle.report_laws.specs.Shown.{report_shown}

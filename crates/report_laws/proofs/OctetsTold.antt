@@ -23,7 +23,7 @@ use Rattle.lawful_run.specs.Telling.{reply_told, verdict_told}
 use Rattle.lawful_run.proofs.SlotCases.{eqb_same}
 use Rattle.report_laws.specs.Octets.{HasItsOctets, LineHasOctets, ToldHaveOctets}
 use Rattle.report_laws.proofs.HeldTold.{all_by_slot}
-use Rattle.past_ranges.proofs.Octets.{effects_some, reply_some, verdict_some}
+use Rattle.lawful_run.proofs.Octets.{effects_some, reply_some, verdict_some}
 
 replies_have : (slot : ℕ) (before events : List Event) → All KeepsReply (made_of.replies slot before events)
 replies_have slot before [] = All-nil KeepsReply

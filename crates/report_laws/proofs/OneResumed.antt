@@ -14,21 +14,21 @@ use Rattle.packet_steps.specs.Parts.{PartsState, all_may_wait, buckets_fit, fit,
 use Rattle.packet_steps.specs.Rows.{HeldRow, in_order}
 use Rattle.subscriber.specs.Standing.{SubscriberState}
 use Rattle.gate_model.proofs.Members.{In, at_each, contains_in, each_at, in_filter_map, in_map, of_any, of_find}
-use Rattle.parts_laws.specs.Alike.{life_of}
-use Rattle.parts_laws.specs.Charging.{AreOpen, AreWithin}
+use Rattle.subscriber.specs.Alike.{life_of}
+use Rattle.subscriber.specs.Charging.{AreOpen, AreWithin}
 use Rattle.trace_lines.specs.Epochs.{epochs_of}
 use Rattle.trace_lines.proofs.EpochLemmas.{are_epochs}
 use Rattle.lawful_run.specs.Cut.{lines_in}
 use Rattle.record_codec.specs.Saved.{AreSaved, FileState, IsFile, IsPiece, IsResting, IsSaved, SavedSubscriber, all_saved, by_index, parts_of, piece_for, saved}
 use Rattle.record_codec.proofs.PieceLemmas.{pieces_are}
-use Rattle.resume_run.specs.Gateway.{Gateway}
-use Rattle.resume_run.specs.Reports.{IsGatewayOf, stop_told}
-use Rattle.resume_run.proofs.OpenPieces.{has_piece}
-use Rattle.resume_laws.proofs.Steps.{IsGoing, step}
-use Rattle.resume_laws.proofs.Gateways.{AreAllOne, AreGatewaysOne}
-use Rattle.resume_laws.proofs.LawLemmas.{opens_same}
-use Rattle.resume_laws.proofs.SavedAlike.{saved_alike}
-use Rattle.resume_laws.proofs.Splits.{ReportsAlike, epochs_one}
+use Rattle.solo_command.specs.Gateway.{Gateway}
+use Rattle.solo_command.specs.Reports.{IsGatewayOf, stop_told}
+use Rattle.solo_command.proofs.OpenPieces.{has_piece}
+use Rattle.solo_command.proofs.Steps.{IsGoing, step}
+use Rattle.solo_command.proofs.Gateways.{AreAllOne, AreGatewaysOne}
+use Rattle.solo_command.proofs.LawLemmas.{opens_same}
+use Rattle.solo_command.proofs.SavedAlike.{saved_alike}
+use Rattle.solo_command.proofs.Splits.{ReportsAlike, epochs_one}
 use Rattle.report_laws.specs.OneText.{OneResumedReport}
 
 -- ---- the counts of its pieces are low

@@ -1,9 +1,9 @@
 -- Two runs of `resume` over the same octets.
 use Rattle.std.proofs.Common.{◌≡◌, ℕ, ◌+◌, ◌<◌, ◌≤◌, ◌^◌, false, List, length, inl, inr, refl, sym, ap, ◌∙◌, subst, arith, length-append}
 use Rattle.pc_outside.specs.Faults.{Rises}
-use Rattle.audit_reading.specs.Progress.{HasRead}
-use Rattle.audit_reading.specs.Texts.{Text, texts_of}
-use Rattle.audit_reading.specs.Texts as texts
+use Rattle.pc_outside.specs.InputRead.{HasRead}
+use Rattle.pc_outside.specs.Texts.{Text, texts_of}
+use Rattle.pc_outside.specs.Texts as texts
 use Rattle.trace_lines.specs.Input.{Input, input_within}
 use Rattle.trace_lines.proofs.InputLemmas.{at_end}
 use Rattle.lawful_run.specs.Report.{Report, report_text}
@@ -12,11 +12,11 @@ use Rattle.trace_run.specs.Beginnings.{input_from}
 use Rattle.trace_run.specs.Report.{IsText}
 use Rattle.trace_run.specs.declared.status.Status.{Status}
 use Rattle.trace_run.specs.declared.status.Status.TheVariants as status
-use Rattle.resume_run.specs.Reports.{IsResumed}
-use Rattle.resume_laws.specs.Law.{TellsAll}
-use Rattle.resume_laws.specs.Resumes.{HasState, Resumed, ResumesAs, StatesAreOne, StoppedFirst, begins_at}
-use Rattle.resume_laws.proofs.LawTexts.{lines_most}
-use Rattle.resume_laws.proofs.RunLemmas.{behind_state, has_told, resumed_of, told_as}
+use Rattle.solo_command.specs.Reports.{IsResumed}
+use Rattle.solo_command.specs.Law.{TellsAll}
+use Rattle.solo_command.specs.Resumes.{HasState, Resumed, ResumesAs, StatesAreOne, StoppedFirst, begins_at}
+use Rattle.solo_command.proofs.LawTexts.{lines_most}
+use Rattle.solo_command.proofs.ResumeRuns.{behind_state, has_told, resumed_of, told_as}
 use Rattle.report_laws.specs.OneText.{OneResumedText}
 use Rattle.report_laws.proofs.OneResumed.{one_report}
 

@@ -8,13 +8,13 @@ use Rattle.pc_outside.specs.Limits.{newline}
 use Rattle.trace_lines.specs.Line.{Line}
 use Rattle.record_codec.specs.Saved.{FileState, all_saved}
 use Rattle.record_codec.specs.Spelling.{state}
-use Rattle.state_run.specs.Text.{IsStateText, are_pieces, joined, piece_len, state_line, trace_word}
-use Rattle.resume_run.specs.Gateway.{no_subscribers}
-use Rattle.resume_run.specs.Left.{IsLeft}
-use Rattle.resume_laws.proofs.Steps.{step}
-use Rattle.resume_laws.proofs.Gateways.{LinesAlike, lines_one}
-use Rattle.resume_laws.proofs.LawLemmas.{none_one}
-use Rattle.resume_laws.proofs.SavedAlike.{all_saved_same}
+use Rattle.record_codec.specs.StateText.{IsStateText, are_pieces, joined, piece_len, state_line, trace_word}
+use Rattle.solo_command.specs.Gateway.{no_subscribers}
+use Rattle.solo_command.specs.Left.{IsLeft}
+use Rattle.solo_command.proofs.Steps.{step}
+use Rattle.solo_command.proofs.Gateways.{LinesAlike, lines_one}
+use Rattle.solo_command.proofs.LawLemmas.{none_one}
+use Rattle.solo_command.proofs.SavedAlike.{all_saved_same}
 use Rattle.report_laws.specs.OneText.{OneSavedText}
 
 -- ---- one file

@@ -5,11 +5,11 @@ use Rattle.lawful_run.specs.Report.{Report}
 use Rattle.lawful_run.specs.Setup.{Setup, solo}
 use Rattle.lawful_run.specs.Trace.{IsReport}
 use Rattle.command_words.specs.declared.jobs.Lanes.{Lanes}
-use Rattle.command_words.specs.declared.turns.Turns.{Turns}
-use Rattle.drive_run.specs.Driven.{IsDrivenReport}
+use Rattle.command_words.specs.declared.turns.AskedTurns.{AskedTurns}
+use Rattle.drive_command.specs.Driven.{IsDrivenReport}
 use Rattle.pepc.specs.Drive.{schedule_asked}
 use Rattle.pepc.specs.Replay.{setup_asked}
-use Rattle.solo_run.specs.Report.{IsSoloReport}
+use Rattle.solo_command.specs.Report.{IsSoloReport}
 use Rattle.pepc.specs.Audit.{audit_setup}
 use Rattle.report_laws.specs.Confirming.{IsOwnText, audited_octets}
 use Rattle.report_laws.specs.Running.{AreLawful, EachIsLawful, IsOwnRun, OwnRunIsConfirmed, OwnRunIsNeverRefuted}

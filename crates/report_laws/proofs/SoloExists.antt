@@ -15,10 +15,10 @@ use Rattle.lawful_run.specs.Run.{by_slot, no_events}
 use Rattle.lawful_run.specs.Setup.{solo}
 use Rattle.lawful_run.specs.Trace.{answered_report, epochs_told, slots_of}
 use Rattle.lawful_run.proofs.EveryTrace.{answered_is_run, answered_run_in_sequence}
-use Rattle.resume_run.specs.Gateway.{Gateway, no_subscribers}
-use Rattle.resume_run.specs.Reports.{opens_from}
-use Rattle.solo_run.specs.Report.{IsSoloReport, slices}
-use Rattle.solo_run.proofs.HoldLemmas.{opens_told}
+use Rattle.solo_command.specs.Gateway.{Gateway, no_subscribers}
+use Rattle.solo_command.specs.Reports.{opens_from}
+use Rattle.solo_command.specs.Report.{IsSoloReport, slices}
+use Rattle.solo_command.proofs.HoldLemmas.{opens_told}
 use Rattle.report_laws.proofs.EpochsAnswered.{EpochsGo, epochs_go}
 use Rattle.report_laws.proofs.GatewaysHold.{nothing_holds}
 use Rattle.report_laws.proofs.InputsInOrder.{InOrder, StopAt, input_in_order}

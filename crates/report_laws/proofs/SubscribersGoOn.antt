@@ -23,7 +23,7 @@ use Rattle.gate_model.specs.declared.event.Event.TheVariants as event
 use Rattle.gate_model.proofs.FewCharges.{commands_follow}
 use Rattle.gate_model.proofs.Following.{commands_learnt, packets_judged, sessions_are, versions_are}
 use Rattle.gate_model.proofs.RoomLemmas.{counts_within}
-use Rattle.parts_laws.specs.Subscribers.{IsCommanded, IsMet}
+use Rattle.subscriber.specs.Subscribers.{IsCommanded, IsMet}
 use Rattle.subscriber.specs.Standing.{HasRoom, Represents, StandsFor, SubscriberState, commands_met, last_of}
 use Rattle.subscriber.proofs.CountLemmas.{room_behind}
 use Rattle.subscriber.proofs.StandingLemmas.{command_stands, packet_stands, version_is}

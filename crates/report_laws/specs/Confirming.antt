@@ -7,10 +7,10 @@ use Rattle.trace_lines.specs.Input.{ended, input_of}
 use Rattle.lawful_run.specs.Report.{Report, entries_of, report_text}
 use Rattle.lawful_run.specs.Setup.{Setup, slices_of, solo}
 use Rattle.lawful_run.specs.Trace.{IsReport}
-use Rattle.audit_run.specs.Findings.{Finds}
-use Rattle.audit_reading.specs.Said.{marker, trace_from}
-use Rattle.audit_reading.specs.Texts as texts
-use Rattle.audit_reading.specs.Texts.{Text, texts_of}
+use Rattle.audit_core.specs.Findings.{Finds}
+use Rattle.audit_core.specs.Said.{marker, trace_from}
+use Rattle.pc_outside.specs.Texts as texts
+use Rattle.pc_outside.specs.Texts.{Text, texts_of}
 
 -- the lines of its text, without places
 abbrev pub lines_of : Report → List Text

@@ -1,3 +1,8 @@
+pub mod Told
+pub mod Lines
+pub mod Neighbours
+pub mod Parts
+pub mod Solo
 pub mod Shown
 pub mod Confirming
 pub mod Held

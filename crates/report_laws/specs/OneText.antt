@@ -5,9 +5,9 @@ use Rattle.trace_lines.specs.Line.{Line}
 use Rattle.lawful_run.specs.Report.{Report}
 use Rattle.trace_run.specs.declared.status.Status.{Status}
 use Rattle.record_codec.specs.Saved.{FileState, IsFile}
-use Rattle.resume_run.specs.Reports.{IsResumed}
-use Rattle.resume_laws.specs.Law.{TellsAll}
-use Rattle.save_run.specs.Saves.{IsSavedText}
+use Rattle.solo_command.specs.Reports.{IsResumed}
+use Rattle.solo_command.specs.Law.{TellsAll}
+use Rattle.save_command.specs.Saves.{IsSavedText}
 use Rattle.report_laws.specs.Resuming.{ResumeRan}
 
 -- Behind a state, whichever program wrote it, an input has one report.

@@ -7,12 +7,12 @@ use Rattle.trace_run.specs.Entries.{charges_text, epochs_text}
 use Rattle.trace_run.specs.Report.{Reports}
 use Rattle.trace_run.specs.declared.status.Status.{Status}
 use Rattle.trace_run.specs.declared.status.Status.TheVariants as status
-use Rattle.resume_run.specs.Gateway.{no_subscribers}
-use Rattle.resume_run.specs.Reports.{Gives}
-use Rattle.resume_laws.specs.Law.{EndWithFence, TellsAll}
-use Rattle.resume_laws.specs.Resumes.{ResumesAs}
-use Rattle.solo_run.specs.Report.{IsSoloReport}
-use Rattle.save_run.specs.Saves.{SavesAs}
+use Rattle.solo_command.specs.Gateway.{no_subscribers}
+use Rattle.solo_command.specs.Reports.{Gives}
+use Rattle.solo_command.specs.Law.{EndWithFence, TellsAll}
+use Rattle.solo_command.specs.Resumes.{ResumesAs}
+use Rattle.solo_command.specs.Report.{IsSoloReport}
+use Rattle.save_command.specs.Saves.{SavesAs}
 
 -- a run of `solo`, of `save` or of `resume` over octets had this status and wrote this text
 pub record SoloRan (ending : Status) (octets text : List ℕ) : Type 0 where

@@ -1,9 +1,9 @@
 -- What the program's `audit` finds of what its `solo`, `drive` or `replay` wrote without places.
 use Rattle.std.specs.Prelude.{◌≡◌, ℕ, Bool, false, List, [], ◌∷◌, ◌++◌, Some}
 use Rattle.command_words.specs.declared.jobs.Lanes.{Lanes}
-use Rattle.command_words.specs.declared.turns.Turns.{Turns}
+use Rattle.command_words.specs.declared.turns.AskedTurns.{AskedTurns}
 use Rattle.command_words.specs.declared.jobs.Job.TheVariants as job
-use Rattle.audit_reading.specs.Texts.{ended, texts_of}
+use Rattle.pc_outside.specs.Texts.{ended, texts_of}
 use Rattle.trace_run.specs.Report.{IsDone, Reports}
 use Rattle.trace_run.specs.declared.status.Status.{Status}
 use Rattle.trace_run.specs.declared.status.Status.TheVariants as status
@@ -11,8 +11,8 @@ use Rattle.pepc.specs.Audit.{AuditReports, audit_setup}
 use Rattle.pepc.specs.Jobs.{Completes}
 use Rattle.pepc.specs.Drive.{schedule_asked}
 use Rattle.pepc.specs.Replay.{setup_asked}
-use Rattle.solo_run.specs.Report.{IsSoloReport}
-use Rattle.drive_run.specs.Driven.{IsDrivenReport}
+use Rattle.solo_command.specs.Report.{IsSoloReport}
+use Rattle.drive_command.specs.Driven.{IsDrivenReport}
 use Rattle.lawful_run.specs.Report.{Report}
 use Rattle.lawful_run.specs.Setup.{Setup, solo}
 use Rattle.lawful_run.specs.Trace.{IsReport}
@@ -26,7 +26,7 @@ AreLawful under may_have = (input : Input) (report : Report) → may_have input 
 -- So are those of each command: on one thread, under a schedule, and over slices in threads.
 pub record EachIsLawful : Type 0 where
   pub sequential : AreLawful solo IsSoloReport
-  pub driven : (lanes : Lanes) (turns : Turns)
+  pub driven : (lanes : Lanes) (turns : AskedTurns)
       → AreLawful (setup_asked lanes) (IsDrivenReport (schedule_asked lanes turns))
   pub replayed : (lanes : Lanes) → AreLawful (setup_asked lanes) (IsReport (setup_asked lanes))
 
@@ -56,12 +56,12 @@ RunIsNeverRefuted under may_have = (octets text left told : List ℕ) (alone why
 -- So it is for each command.
 pub record OwnRunIsConfirmed : Type 0 where
   pub sequential : RunIsConfirmed solo IsSoloReport
-  pub driven : (lanes : Lanes) (turns : Turns)
+  pub driven : (lanes : Lanes) (turns : AskedTurns)
       → RunIsConfirmed (setup_asked lanes) (IsDrivenReport (schedule_asked lanes turns))
   pub replayed : (lanes : Lanes) → RunIsConfirmed (setup_asked lanes) (IsReport (setup_asked lanes))
 
 pub record OwnRunIsNeverRefuted : Type 0 where
   pub sequential : RunIsNeverRefuted solo IsSoloReport
-  pub driven : (lanes : Lanes) (turns : Turns)
+  pub driven : (lanes : Lanes) (turns : AskedTurns)
       → RunIsNeverRefuted (setup_asked lanes) (IsDrivenReport (schedule_asked lanes turns))
   pub replayed : (lanes : Lanes) → RunIsNeverRefuted (setup_asked lanes) (IsReport (setup_asked lanes))

@@ -3,7 +3,7 @@ ghost use Rattle.report_laws.specs.Confirming.{OwnReportIsConfirmed, OwnReportIs
 ghost use Rattle.report_laws.specs.Confirming.{OwnTextIsConfirmed, OwnTextIsNeverRefuted};
 ghost use Rattle.report_laws.specs.Running.{EachIsLawful, OwnRunIsConfirmed, OwnRunIsNeverRefuted};
 
-use drive_run::driven_reports_are_lawful;
+use drive_command::driven_reports_are_lawful;
 
 /// An audit finds nothing to refute in a lawful report of a trace, without its places: held against the same slices,
 /// room and lanes; and in one that one thread made, held against one thread, or against 64 slices with any room and

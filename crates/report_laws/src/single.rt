@@ -1,7 +1,7 @@
 //! What `save` and `resume` write is one text.
 ghost use Rattle.report_laws.specs.OneText.{OneResumedReport, OneResumedText, OneSavedText};
 
-use resume_laws::states_are_told;
+use solo_command::states_are_told;
 
 /// Behind any state an input has one report, and runs of `resume` over one input that tell all of it write one text,
 /// with one status.

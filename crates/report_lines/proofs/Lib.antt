@@ -6,3 +6,6 @@ pub mod KeepLemmas
 pub mod ReadLemmas
 pub mod WritingLemmas
 mod HeadLemmas
+pub mod PlusLemmas
+pub mod CountLemmas
+pub mod AddLemmas

@@ -4,3 +4,5 @@ pub mod Text
 pub mod Lent
 pub mod Ranges
 pub mod Reading
+pub mod Counts
+pub mod Summary

@@ -33,7 +33,7 @@ pub enum LineEntry {
     /// A note: the line is neither a command nor a packet, or is refused.
     N(Note),
     /// A command and its reply.
-    C(Answer),
+    C(CommandReply),
     /// A packet and its verdict.
     P(Judgement),
     /// A command or packet that found its queue full.
@@ -95,14 +95,14 @@ impl Note {
 
 /// The reply to the command of this number of a slot. A message has at least one octet.
 #[derive(Debug, Drop, PartialEq, Eq)]
-pub struct Answer {
+pub struct CommandReply {
     pub line: u64,
     pub slot: Slot,
     pub number: u64,
     pub reply: Reply,
 }
 
-impl Model for Answer {
+impl Model for CommandReply {
     ghost use Rattle.report_lines.specs.Records.{Answered, KeepsReply};
 
     ghost Value = { Answered };
@@ -114,11 +114,11 @@ impl Model for Answer {
     ghost inverse = { λ told. record { line = told.line; slot = told.slot; number = told.number; reply = told.reply } };
 }
 
-impl Answer {
-    fn try_clone(&self) -> Result<Answer, NoMemory>
+impl CommandReply {
+    fn try_clone(&self) -> Result<CommandReply, NoMemory>
         ensures { IfOk result (λ copy. copy ≡ self.now) }
     {
-        Ok(Answer {
+        Ok(CommandReply {
             line: self.line,
             slot: self.slot,
             number: self.number,

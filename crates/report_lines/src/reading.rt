@@ -15,7 +15,7 @@ use crate::fields::{next_address, next_message, next_number, next_octets, next_s
 use crate::packets::{next_fate, next_verdict, read_place};
 use crate::words::{read_outcome, read_refused};
 use crate::{
-    Answer, ChargeEntry, EffectEntry, Entry, Judgement, LineEntry, NoMemory, Note, Refusal,
+    ChargeEntry, CommandReply, EffectEntry, Entry, Judgement, LineEntry, NoMemory, Note, Refusal,
 };
 use charging_book::{ChargeRow, Open};
 use pc_base::{Effect, Octets, Outcome, Reply, Slot};
@@ -128,7 +128,7 @@ fn next_head(left: Option<&[u8]>) -> Option<((u64, Slot, u64), Option<&[u8]>)>
     Some(((line, slot, number), left))
 }
 
-fn read_answer(alloc: Global, left: Option<&[u8]>) -> Result<Option<Answer>, NoMemory>
+fn read_answer(alloc: Global, left: Option<&[u8]>) -> Result<Option<CommandReply>, NoMemory>
     ensures { IfOk result (λ read. read ≡ answered_of (pieces_left space left.entry)) }
 {
     let Some(((line, slot, number), left)) = next_head(left) else {
@@ -144,7 +144,7 @@ fn read_answer(alloc: Global, left: Option<&[u8]>) -> Result<Option<Answer>, NoM
         return Ok(None);
     };
     let reply = Reply { outcome, message };
-    Ok(Some(Answer {
+    Ok(Some(CommandReply {
         line,
         slot,
         number,

@@ -19,8 +19,7 @@ ghost use Rattle.report_lines.specs.declared.entry.ChargeEntry.TheVariants as ch
 use crate::words::{outcome_word, refused_word, why_word};
 use crate::{ChargeEntry, EffectEntry, Entry, Judgement, LineEntry, Note};
 use charging_book::{ChargeRow, Open};
-use hex_display::Hexadecimal;
-use pc_base::{Effect, Fate, Moment, Octets, Place, Slot, Verdict};
+use pc_base::{Effect, Fate, Hexadecimal, Moment, Octets, Place, Slot, Verdict};
 use std::{fmt, str};
 
 impl fmt::Display for Entry {

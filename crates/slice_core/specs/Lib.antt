@@ -1,2 +1,4 @@
 pub mod Seats
 pub mod Threads
+pub mod Lines
+pub mod Serving

@@ -5,10 +5,12 @@ use Rattle.worker_core.specs.declared.worker.Worker.{Worker}
 use Rattle.worker_core.specs.declared.worker.WorkerEnd.{WorkerEnd}
 use Rattle.worker_core.specs.Workers as control_worker
 use Rattle.worker_core.specs.Workers.{Lanes}
-use Rattle.flow_core.specs.declared.flow.Flow as flowing
-use Rattle.flow_core.specs.declared.worker.FlowWorker.{FlowWorker}
-use Rattle.flow_core.specs.declared.worker.FlowEnd.{FlowEnd}
-use Rattle.flow_core.specs.Workers as flow_worker
+use Rattle.worker_core.specs.declared.data_half.DataTraveller as data_travelling
+use Rattle.worker_core.specs.declared.data_worker.DataWorker.{DataWorker}
+use Rattle.worker_core.specs.declared.data_worker.DataEnd.{DataEnd}
+use Rattle.worker_core.specs.DataWorkers as data_worker
+use Rattle.slice_core.specs.declared.serving.SliceWorkers.{SliceWorkers}
+use Rattle.slice_core.specs.declared.serving.SliceEnds.{SliceEnds}
 
 abbrev pub Seat : Type 0
 Seat = ℕ × Lanes
@@ -20,9 +22,16 @@ module _ {H N : Type 0} {g : traveller.Ghosts H N} where
   abbrev pub control_end_seat : WorkerEnd H N g → Seat
   control_end_seat end = (end.place, control_worker.end_lanes end)
 
-module _ {H N I : Type 0} {g : flowing.Ghosts H N I} where
-  abbrev pub flow_seat : FlowWorker H N I g → Seat
-  flow_seat worker = (flow_worker.place_of worker, flow_worker.worker_lanes worker)
+module _ {H N I : Type 0} {g : data_travelling.Ghosts H N I} where
+  abbrev pub data_seat : DataWorker H N I g → Seat
+  data_seat worker = (data_worker.place_of worker, data_worker.worker_lanes worker)
 
-  abbrev pub flow_end_seat : FlowEnd H N I g → Seat
-  flow_end_seat end = (end.place, flow_worker.end_lanes end)
+  abbrev pub data_end_seat : DataEnd H N I g → Seat
+  data_end_seat end = (end.place, data_worker.end_lanes end)
+
+-- those of the two workers of a slice
+abbrev pub workers_seats : SliceWorkers → Seat × Seat
+workers_seats workers = (control_seat workers.control, data_seat workers.data_half)
+
+abbrev pub ends_seats : SliceEnds → Seat × Seat
+ends_seats ends = (control_end_seat ends.control, data_end_seat ends.data_half)

@@ -12,8 +12,8 @@ use std::sync::atomic::{AtomicBool, Ordering};
 // How many calls wait at most.
 const PLACES: usize = 1024;
 
-/// The slots of a slice whose control halves were sent a command: the front puts them in, and the thread of the slice's
-/// control worker takes them out.
+/// The slots of a slice whose control halves were sent a command: the front puts them in, and the slice's thread takes
+/// them out.
 #[derive(Drop)]
 pub struct Calls {
     slots: ArrayQueue<Slot>,

@@ -1,7 +1,7 @@
 //! Where the threads of slices may be made to meet.
 use pc_base::SliceNo;
 
-/// What the data thread of a slice passes once in each epoch, before it first looks at its post. A test can hold them
+/// What the thread of a slice passes once in each epoch, before it first looks at its post. A test can hold them
 /// there until all have come.
 pub trait Gate: Sync {
     fn meet(&self, slice: SliceNo);

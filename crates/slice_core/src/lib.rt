@@ -1,20 +1,22 @@
-//! The threads of slices. Each turns a worker until its post says stop or it runs out of memory, and gives the worker's
-//! end; a slice has two, one for each kind of half. What the front does meanwhile is left to its caller.
+//! An epoch over slices, in threads: the front takes the lines, while each slice has a thread for its control
+//! halves and one for its data halves. Each turns a worker until its post says stop or it runs out of memory, and
+//! gives the worker's end. Threads share lanes, posts and calls, and nothing else.
 #![tactic(auto)]
 
 mod calls;
-mod control;
-mod flow;
+mod epoch;
 mod gate;
-mod posts;
+mod lines;
 mod promises;
+mod rounds;
+mod served;
 mod serving;
+mod threads;
 
-pub use calls::{Calls, calls_of};
-pub use control::{ControlThread, join_controls, start_controls};
-pub use flow::{FlowThread, join_flows, start_flows};
+pub use calls::Calls;
+pub use epoch::run_epoch;
 pub use gate::{Gate, OpenGate};
-pub use posts::{Post, have_rested, mark_all, posts_of, stop_all};
-pub use promises::{ControlEnded, ControlOf, FlowEnded, FlowOf};
-pub use serving::{ControlWorker, DataWorker, serve_control, serve_data};
+pub use promises::{SliceEnded, SliceOf};
+pub use serving::{ControlWorker, SliceEnds, SliceWorkers, serve_slice};
 pub use std::alloc::AllocError as NoMemory;
+pub use threads::{Ends, SliceThread, join_slices, start_slices};

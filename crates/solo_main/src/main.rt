@@ -3,7 +3,7 @@
 #![tactic(auto)]
 
 use pc_outside::{StdSink, StdSource};
-use solo_run::run_solo;
+use solo_command::run_solo;
 use std::process::ExitCode;
 use trace_run::{Status, fault_text};
 

@@ -5,7 +5,7 @@ use Rattle.std.proofs.lemmas.List.{map-append, take-append-le}
 use Rattle.std.proofs.lemmas.List.Elements.{All-nil, All-cons, All-head, All-tail, All-push, All-weaker}
 use Rattle.subscriber.specs.Standing.{commands_met, last_of}
 use Rattle.control_half.specs.declared.items.CommandItem.{CommandItem}
-use Rattle.counter_half.specs.declared.items.FlowItem.{FlowItem}
+use Rattle.counter_half.specs.declared.items.DataItem.{DataItem}
 use Rattle.counter_half.specs.Tells.{AreLate}
 use Rattle.split_record.specs.Accepted.{MayStand, AreNumbered}
 use Rattle.split_record.specs.Rejoined.{start_of, unbound, commands_sent, AreAccepted, IsSameFront}
@@ -25,7 +25,7 @@ late_push least last moment (m ∷ moments) late early low high = (
 )
 
 -- items of a slot, and one of the next number
-pub numbered_push : (slot number : ℕ) (items : List FlowItem) (item : FlowItem) → AreNumbered slot number items
+pub numbered_push : (slot number : ℕ) (items : List DataItem) (item : DataItem) → AreNumbered slot number items
     → item.slot ≡ slot → item.number ≡ number + length items → item.packet.number ≡ number + length items
     → AreNumbered slot number (items ++ item ∷ [])
 numbered_push slot number [] item are of_slot next packet_next = (
@@ -42,7 +42,7 @@ numbered_push slot number (first ∷ items) item are of_slot next packet_next = 
 )
 
 -- whatever more is accepted, an item may stand among the commands
-pub standing_more : (first : ℕ) (commands more : List CommandItem) (item : FlowItem) → MayStand first commands item
+pub standing_more : (first : ℕ) (commands more : List CommandItem) (item : DataItem) → MayStand first commands item
     → MayStand first (commands ++ more) item
 standing_more first commands more item is = record {
   floor = omega (arith, is.floor, length-append commands more);
@@ -50,19 +50,19 @@ standing_more first commands more item is = record {
       (sym (take-append-le (item.floor - first) commands more (omega (arith, is.floor)))) is.below;
 }
 
-abbrev moment_of : FlowItem → ℕ
+abbrev moment_of : DataItem → ℕ
 moment_of item = item.packet.moment
 
 -- what holds of the items' moments
-all_moments : (items : List FlowItem) (last : ℕ) → All (λ (i : FlowItem). i.packet.moment ≤ last) items
+all_moments : (items : List DataItem) (last : ℕ) → All (λ (i : DataItem). i.packet.moment ≤ last) items
     → All (Early last) (map moment_of items)
 all_moments [] last early = All-nil (Early last)
 all_moments (item ∷ items) last early =
-    let P : FlowItem → Type 0 = λ i. i.packet.moment ≤ last in
+    let P : DataItem → Type 0 = λ i. i.packet.moment ≤ last in
     All-cons (Early last) (moment_of item) (map moment_of items) (All-head P item items early)
     (all_moments items last (All-tail P item items early))
 
-module _ (old new : FrontEnd) (items : List FlowItem) (same : IsSameFront old new) (are : AreAccepted old items) where
+module _ (old new : FrontEnd) (items : List DataItem) (same : IsSameFront old new) (are : AreAccepted old items) where
   -- commands more are accepted
   pub accepted_commands : (more : List CommandItem) → commands_sent new ≡ commands_sent old ++ more
       → new.packets ≡ old.packets → AreAccepted new items
@@ -81,10 +81,10 @@ module _ (old new : FrontEnd) (items : List FlowItem) (same : IsSameFront old ne
   }
 
   -- a packet more is accepted
-  pub accepted_packet : (item : FlowItem) (last : ℕ) → commands_sent new ≡ commands_sent old
+  pub accepted_packet : (item : DataItem) (last : ℕ) → commands_sent new ≡ commands_sent old
       → new.packets ≡ old.packets + 1 → item.slot ≡ old.slot → item.number ≡ old.packets
       → item.packet.number ≡ old.packets → MayStand (commands_met (start_of old)) (commands_sent old) item
-      → unwrap_or (last_of (start_of old)) 0 ≤ last → All (λ (i : FlowItem). i.packet.moment ≤ last) items
+      → unwrap_or (last_of (start_of old)) 0 ≤ last → All (λ (i : DataItem). i.packet.moment ≤ last) items
       → last ≤ item.packet.moment → AreAccepted new (items ++ item ∷ [])
   accepted_packet item last sent packets of_slot number packet_number stands low early high = record {
     counted = packets ∙ omega (arith, are.counted, length-append items (item ∷ []))

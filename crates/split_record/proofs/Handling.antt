@@ -5,7 +5,7 @@ use Rattle.std.proofs.lemmas.List.{length-map}
 use Rattle.subscriber.specs.Standing.{SubscriberState, commands_met}
 use Rattle.control_half.specs.Controlled.{versions_left}
 use Rattle.control_half.specs.Published.{Published, in_batches, in_kept}
-use Rattle.counter_half.specs.declared.items.FlowItem.{FlowItem}
+use Rattle.counter_half.specs.declared.items.DataItem.{DataItem}
 use Rattle.counter_half.specs.Handled.{Handled, HasHandled, items_in}
 use Rattle.counter_half.specs.State.{learnt_by}
 use Rattle.counter_half.proofs.Facts.{last_or_before}
@@ -48,12 +48,12 @@ module _ (origin : Origin) (now : Closing) (is : IsClosing origin now) where
         ((λ i. in_batches now.batches.items ++ in_kept (applied.none_kept i))
         ∙ append-nil (in_batches now.batches.items)))).versions
 
-    next_number : (item : FlowItem) (rest : List FlowItem) → items_left now ≡ item ∷ rest
+    next_number : (item : DataItem) (rest : List DataItem) → items_left now ≡ item ∷ rest
         → item.number ≡ now.state.done
     next_number item rest next =
         let before = items_in now.state.handled.items in
         let are : items_in_all origin ≡ before ++ item ∷ rest =
-        is.items ∙ ap (λ (l : List FlowItem). before ++ l) next in
+        is.items ∙ ap (λ (l : List DataItem). before ++ l) next in
         omega (
           arith,
           numbered_at origin.front.value.slot (start_in origin).packets before item rest
@@ -62,12 +62,12 @@ module _ (origin : Origin) (now : Closing) (is : IsClosing origin now) where
           length-map now.state.handled.items (λ (h : Handled). h.0),
         )
 
-    pub floor_is_met : (item : FlowItem) (rest : List FlowItem) → items_left now ≡ item ∷ rest
+    pub floor_is_met : (item : DataItem) (rest : List DataItem) → items_left now ≡ item ∷ rest
         → Waits now.state.done now.taken now.batches.items → item.floor ≤ now.state.met
     floor_is_met item rest next waits =
         let before = items_in now.state.handled.items in
         let are : items_in_all origin ≡ before ++ item ∷ rest =
-        is.items ∙ ap (λ (l : List FlowItem). before ++ l) next in
+        is.items ∙ ap (λ (l : List DataItem). before ++ l) next in
         let may = all_at (MayStand (commands_met (start_in origin)) (commands_in origin)) before item rest
         (subst (All (MayStand (commands_met (start_in origin)) (commands_in origin))) are accepted.standing) in
         let number = next_number item rest next in
@@ -76,7 +76,7 @@ module _ (origin : Origin) (now : Closing) (is : IsClosing origin now) where
         published_are waits
 
     -- the next packet has each command before it whose floor it allows
-    next_meets : (item : FlowItem) → item.number ≡ now.state.done
+    next_meets : (item : DataItem) → item.number ≡ now.state.done
         → Waits now.state.done now.taken now.batches.items
         → MeetsAll (commands_met (start_in origin)) (commands_in origin) (item, now.state.met)
     next_meets item number waits = λ k within low.
@@ -86,7 +86,7 @@ module _ (origin : Origin) (now : Closing) (is : IsClosing origin now) where
         omega (arith, behind, has.met_is)
 
     -- and so has each that was handled since the lanes were closed
-    pub next_met : (item : FlowItem) (rest : List FlowItem) (handled : List Handled) → items_left now ≡ item ∷ rest
+    pub next_met : (item : DataItem) (rest : List DataItem) (handled : List Handled) → items_left now ≡ item ∷ rest
         → Waits now.state.done now.taken now.batches.items
         → handled ≡ now.state.handled.items ++ (item, now.state.met) ∷ []
         → AllMeetBehind (handled_early origin) (commands_met (start_in origin)) (commands_in origin) handled
@@ -104,8 +104,8 @@ module _ (origin : Origin) (now : Closing) (is : IsClosing origin now) where
           arith,
           accepted.counted,
           has.done_is,
-          ap (λ (l : List FlowItem). length l) is.items,
-          ap (λ (l : List FlowItem). length l) none,
+          ap (λ (l : List DataItem). length l) is.items,
+          ap (λ (l : List DataItem). length l) none,
           length-append (items_in now.state.handled.items) (items_left now),
           length-map now.state.handled.items (λ (h : Handled). h.0),
         ) in

@@ -8,13 +8,13 @@ use Rattle.gate_model.specs.declared.event.Event.TheVariants as event
 use Rattle.lawful_run.specs.Accepted.{Placed, commands_accepted, packets_accepted}
 use Rattle.lawful_run.specs.Merging.{merged}
 use Rattle.subscriber.specs.Standing.{commands_met}
-use Rattle.counter_half.specs.declared.items.FlowItem.{FlowItem}
+use Rattle.counter_half.specs.declared.items.DataItem.{DataItem}
 use Rattle.counter_half.specs.Handled.{met_in}
 use Rattle.counter_half.specs.Interleaved.{interleaved}
 use Rattle.split_record.specs.Finishing.{commands_in, counts_told, handled_as}
 use Rattle.split_record.specs.Joined.{numbered_from, with_counts, events_met, EventsAreOfLines, CountsAreTold}
 
-abbrev packet_in : FlowItem → Packet
+abbrev packet_in : DataItem → Packet
 packet_in item = item.packet
 
 none_left : {X Y : Type 0} (x : X) (xs : List X) → [] ≡ x ∷ xs → Y
@@ -23,7 +23,7 @@ none_left x xs is = absurd (let no : ⊥ = cc in no)
 some_left : {X Y : Type 0} (x : X) (xs : List X) → x ∷ xs ≡ [] → Y
 some_left x xs is = absurd (let no : ⊥ = cc in no)
 
-interleaved_as : (done next : ℕ) (commands : List CommandKind) (items : List FlowItem) (placed : List Placed)
+interleaved_as : (done next : ℕ) (commands : List CommandKind) (items : List DataItem) (placed : List Placed)
     (counts : List ℕ) → map packet_in items ≡ numbered_from next placed
     → interleaved done commands (met_in (handled_as items counts)) ≡ merged done next commands (with_counts counts placed)
 interleaved_as done next commands [] [] counts are = refl

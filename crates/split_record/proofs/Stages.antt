@@ -14,7 +14,7 @@ use Rattle.split_record.specs.Finishing.{AllMeetBehind}
 use Rattle.split_record.specs.Origin.{IsOpen, IsHalfway, IsClosing, IsAt}
 use Rattle.split_record.specs.declared.origin.Origin.{Origin}
 use Rattle.split_record.specs.declared.parts.Stage.TheVariants as stages
-use Rattle.split_record.specs.declared.parts.Open.{Open}
+use Rattle.split_record.specs.declared.parts.OpenHalves.{OpenHalves}
 use Rattle.split_record.specs.declared.parts.Halfway.{Halfway}
 use Rattle.split_record.specs.declared.closing.Closing.{Closing}
 use Rattle.split_record.proofs.Lanes.{lane_closed}
@@ -62,7 +62,7 @@ versions_closed sent learnt hand rest kept is =
     ∙ ap (λ (l : List Published). learnt ++ l) (append_assoc hand rest kept)
 
 -- parts at a stage
-pub at_open : (origin : Origin) (now : Open) → IsOpen origin now → IsAt origin (stages.Open now)
+pub at_open : (origin : Origin) (now : OpenHalves) → IsOpen origin now → IsAt origin (stages.Open now)
 at_open origin now is = record {
   opens = λ other same. subst (IsOpen origin) (let s : now ≡ other = cc in s) is;
   halfway = λ other same. absurd (let no : ⊥ = cc in no);

@@ -21,7 +21,7 @@ use Rattle.control_half.specs.declared.items.CommandItem.{CommandItem}
 use Rattle.control_half.specs.declared.items.CommandDone.{CommandDone}
 use Rattle.control_half.specs.Controlled.{versions_left, HasApplied}
 use Rattle.control_half.specs.Published.{Published}
-use Rattle.counter_half.specs.declared.items.FlowItem.{FlowItem}
+use Rattle.counter_half.specs.declared.items.DataItem.{DataItem}
 use Rattle.counter_half.specs.declared.items.PacketDone.{PacketDone}
 use Rattle.counter_half.specs.declared.items.VersionDone.{VersionDone}
 use Rattle.counter_half.specs.Handled.{Handled, Note, HasHandled, AreMet, noted, note_of, items_in, counts_in, met_in, met_of}
@@ -48,7 +48,7 @@ handled_again : (handled : List Handled) → handled_as (items_in handled) (coun
 handled_again [] = refl
 handled_again (h ∷ handled) = ap (λ (l : List Handled). h ∷ l) (handled_again handled)
 
-moments_again : (handled : List Handled) → map (λ (i : FlowItem). i.packet.moment) (items_in handled) ≡ moments_in handled
+moments_again : (handled : List Handled) → map (λ (i : DataItem). i.packet.moment) (items_in handled) ≡ moments_in handled
 moments_again [] = refl
 moments_again (h ∷ handled) = ap (λ (l : List ℕ). h.0.packet.moment ∷ l) (moments_again handled)
 
@@ -61,7 +61,7 @@ all_places {X} P (x ∷ xs) each =
     (all_places P xs (λ before y after is. each (x ∷ before) y after (ap (λ (l : List X). x ∷ l) is)))
 
 -- the notes tell what was handled
-pub handled_told : (first packets : ℕ) (items : List FlowItem) (learnt : List Published) (handled : List Handled)
+pub handled_told : (first packets : ℕ) (items : List DataItem) (learnt : List Published) (handled : List Handled)
     (met done : ℕ) (judged : List PacketDone) → HasHandled first packets learnt handled met done judged
     → items ≡ items_in handled → handled_as items (counts_told judged) ≡ handled
 handled_told first packets items learnt handled met done judged has are =
@@ -69,7 +69,7 @@ handled_told first packets items learnt handled met done judged has are =
     ∙ counts_of_notes handled in
     (λ i. handled_as (are i) (counts i)) ∙ handled_again handled
 
-module _ (start : SubscriberState) (commands : List CommandItem) (items : List FlowItem) (session : SessionState)
+module _ (start : SubscriberState) (commands : List CommandItem) (items : List DataItem) (session : SessionState)
     (number : ℕ) (replied : List CommandDone) (learnt : List Published) (handled : List Handled) (met done : ℕ)
     (judged : List PacketDone)
     (applied : HasApplied (commands_met start) start.session commands session number replied learnt)
@@ -128,7 +128,7 @@ module _ (start : SubscriberState) (commands : List CommandItem) (items : List F
   -- behind the events of a slot that the subscriber represented
   module _ (version : VersionState) (old : counters.CountersState) (dones : List VersionDone)
       (tells : TellsLawfully start learnt handled version old judged dones)
-      (late : AreLate (unwrap_or (last_of start) 0) (map (λ (i : FlowItem). i.packet.moment) items))
+      (late : AreLate (unwrap_or (last_of start) 0) (map (λ (i : DataItem). i.packet.moment) items))
       (slot : ℕ) (before : List Event) (taken : ℕ) (stood : StandsFor start slot before taken)
       (few : length before + length commands + length items < 2 ^ 40) where
     abbrev kinds : List CommandKind
@@ -142,13 +142,13 @@ module _ (start : SubscriberState) (commands : List CommandItem) (items : List F
       stood = stood;
       versions = ap versions_in applied.versions ∙ versions_of_items first start.session commands;
       late = subst (AreLate (unwrap_or (last_of start) 0))
-          (ap (λ (l : List FlowItem). map (λ (i : FlowItem). i.packet.moment) l) are ∙ moments_again handled)
+          (ap (λ (l : List DataItem). map (λ (i : DataItem). i.packet.moment) l) are ∙ moments_again handled)
           late;
       few = omega (
         arith,
         few,
         length-map commands (λ (c : CommandItem). c.command),
-        ap (λ (l : List FlowItem). length l) are,
+        ap (λ (l : List DataItem). length l) are,
         length-map handled (λ (h : Handled). h.0),
       );
     }
@@ -217,7 +217,7 @@ module _ (start : SubscriberState) (commands : List CommandItem) (items : List F
         effects_are = told_now.effects_are ∙ ap (λ (e : List Event). effects slot before e) told_in_order;
         last_is = taken_out.last ∙ sym stood_now.last ∙ told_now.last
             ∙ ap (last_moment (last_of start))
-            (sym (ap (λ (l : List FlowItem). map (λ (i : FlowItem). i.packet.moment) l) are ∙ moments_again handled));
+            (sym (ap (λ (l : List DataItem). map (λ (i : DataItem). i.packet.moment) l) are ∙ moments_again handled));
         rows_are = rows_law (past_of slot (before ++ now)).packets taken stood_now
             ∙ ap (λ (e : List Event). drop taken (records_after slot (before ++ e))) told_in_order;
       }

@@ -10,7 +10,7 @@ use Rattle.control_half.specs.Batch.{versions_of, floor_of}
 use Rattle.control_half.specs.declared.items.CommandItem.{CommandItem}
 use Rattle.control_half.specs.Controlled.{versions_left, stepped}
 use Rattle.control_half.specs.Published.{Published, under, in_batches, in_kept}
-use Rattle.counter_half.specs.declared.items.FlowItem.{FlowItem}
+use Rattle.counter_half.specs.declared.items.DataItem.{DataItem}
 use Rattle.split_record.specs.Accepted.{AreNumbered, MayStand}
 use Rattle.split_record.specs.Closing.{Waits}
 use Rattle.split_record.proofs.Floors.{Low, next_waits}
@@ -21,7 +21,7 @@ left_count first start [] = refl
 left_count first start (c ∷ commands) = omega (arith, left_count (first + 1) (stepped start c) commands)
 
 -- the item at a place has the number of that place
-pub numbered_at : (slot number : ℕ) (before : List FlowItem) (item : FlowItem) (after : List FlowItem)
+pub numbered_at : (slot number : ℕ) (before : List DataItem) (item : DataItem) (after : List DataItem)
     → AreNumbered slot number (before ++ item ∷ after) → item.number ≡ number + length before
 numbered_at slot number [] item after are = omega (arith, are.1)
 numbered_at slot number (b ∷ before) item after are =
@@ -41,8 +41,8 @@ module _ (k n first : ℕ) (start : SessionState) (commands : List CommandItem) 
   some_wait floor (v ∷ versions) rest are some high =
       next_waits k n first start commands learnt (under floor v) (map (under floor) versions ++ rest) (sym are) low high
 
-  -- where the next version waits for more than n packets, all those of the first commands are learnt whose floors are at
-  -- most n
+  -- where the next version waits for more than n packets, all those of the first commands are learnt whose floors are
+  -- at most n
   pub waits_behind : {g : Ghosts VersionState} (taken : Option (Batch VersionState g))
       (batches : List (Batch VersionState g))
       → learnt ++ (in_kept taken ++ in_batches batches) ≡ versions_left first start commands
@@ -57,7 +57,7 @@ module _ (k n first : ℕ) (start : SessionState) (commands : List CommandItem) 
 -- an item's floor is met
 pub floor_met : {g : Ghosts VersionState} (first done met : ℕ) (start : SessionState) (commands : List CommandItem)
     (learnt : List Published) (taken : Option (Batch VersionState g)) (batches : List (Batch VersionState g))
-    (item : FlowItem) → MayStand first commands item → item.number ≡ done → met ≡ first + length learnt
+    (item : DataItem) → MayStand first commands item → item.number ≡ done → met ≡ first + length learnt
     → learnt ++ (in_kept taken ++ in_batches batches) ≡ versions_left first start commands
     → Waits done taken batches → item.floor ≤ met
 floor_met first done met start commands learnt taken batches item may number met_is are waits =

@@ -13,7 +13,7 @@ use Rattle.control_half.specs.declared.items.CommandItem.{CommandItem}
 use Rattle.control_half.specs.declared.items.CommandDone.{CommandDone}
 use Rattle.counter_half.specs.Handled.{Handled, items_in}
 use Rattle.counter_half.specs.Kept.{kept_count}
-use Rattle.counter_half.specs.declared.items.FlowItem.{FlowItem}
+use Rattle.counter_half.specs.declared.items.DataItem.{DataItem}
 
 -- the first commands of all, as many as were applied
 abbrev pub applied_of : ℕ → ℕ → List CommandItem → List CommandItem
@@ -29,7 +29,7 @@ pub record HasLeft (start : SubscriberState) (commands : List CommandItem) (sess
   pub within : number ≤ commands_met start + length commands
 
 -- the packets handled and those that wait are the items accepted
-abbrev pub AreItems : List FlowItem → List Handled → List FlowItem → Type 0
+abbrev pub AreItems : List DataItem → List Handled → List DataItem → Type 0
 AreItems items handled left = items ≡ items_in handled ++ left
 
 module _ {g : Ghosts VersionState} where

@@ -10,7 +10,7 @@ use Rattle.lawful_run.specs.Telling.{counted}
 use Rattle.subscriber.specs.Standing.{SubscriberState, StandsFor, commands_met, last_of}
 use Rattle.control_half.specs.declared.items.CommandItem.{CommandItem}
 use Rattle.control_half.specs.declared.items.CommandDone.{CommandDone}
-use Rattle.counter_half.specs.declared.items.FlowItem.{FlowItem}
+use Rattle.counter_half.specs.declared.items.DataItem.{DataItem}
 use Rattle.counter_half.specs.declared.items.PacketDone.{PacketDone}
 use Rattle.counter_half.specs.declared.items.VersionDone.{VersionDone}
 use Rattle.counter_half.specs.Handled.{Handled, noted, note_of}
@@ -18,7 +18,7 @@ use Rattle.counter_half.specs.Interleaved.{rises}
 use Rattle.counter_half.specs.Tells.{events_made, effect_entries, last_moment}
 
 -- each item with how many commands stand before it
-abbrev pub handled_as : List FlowItem → List ℕ → List Handled
+abbrev pub handled_as : List DataItem → List ℕ → List Handled
 handled_as [] counts = []
 handled_as (item ∷ items) [] = (item, 0) ∷ handled_as items []
 handled_as (item ∷ items) (count ∷ counts) = (item, count) ∷ handled_as items counts
@@ -30,7 +30,7 @@ abbrev pub counts_told : List PacketDone → List ℕ
 counts_told notes = map (λ (d : PacketDone). d.commands) notes
 
 -- the events since the split, in the order that the verdicts tell
-abbrev pub events_told : SubscriberState → List CommandItem → List FlowItem → List PacketDone → List Event
+abbrev pub events_told : SubscriberState → List CommandItem → List DataItem → List PacketDone → List Event
 events_told start commands items notes =
     events_made start (commands_in commands) (handled_as items (counts_told notes))
 
@@ -53,7 +53,7 @@ AllMeetBehind early first commands handled = (before : List Handled) (h : Handle
 -- A subscriber was split, and these commands and items were accepted since. What came of them is what the one-thread
 -- gateway makes of them in the order told, behind the events before the split; and one record represents them all.
 pub record Comes (start : SubscriberState) (slot : ℕ) (before : List Event) (taken : ℕ) (commands : List CommandItem)
-    (items : List FlowItem) (record_now : SubscriberState) (replied : List CommandDone) (judged : List PacketDone)
+    (items : List DataItem) (record_now : SubscriberState) (replied : List CommandDone) (judged : List PacketDone)
     (done : List VersionDone) (rows : List Charged) : Type 0 where
   pub stands : StandsFor record_now slot (before ++ events_told start commands items judged)
       (length (records_after slot (before ++ events_told start commands items judged)))
@@ -62,12 +62,12 @@ pub record Comes (start : SubscriberState) (slot : ℕ) (before : List Event) (t
   pub verdicts_are : map (λ (d : PacketDone). d.verdict) judged
       ≡ verdicts slot before (events_told start commands items judged)
   pub effects_are : flat_map (effect_entries slot) done ≡ effects slot before (events_told start commands items judged)
-  pub last_is : last_of record_now ≡ last_moment (last_of start) (map (λ (i : FlowItem). i.packet.moment) items)
+  pub last_is : last_of record_now ≡ last_moment (last_of start) (map (λ (i : DataItem). i.packet.moment) items)
   pub rows_are : rows ≡ drop taken (records_after slot (before ++ events_told start commands items judged))
 
 -- What is noted, whatever stood before: each command and each item once, in order, under its number and its line; and
 -- the counts of commands before packets lie within their bounds.
-pub record Notes (start : SubscriberState) (commands : List CommandItem) (items : List FlowItem)
+pub record Notes (start : SubscriberState) (commands : List CommandItem) (items : List DataItem)
     (replied : List CommandDone) (judged : List PacketDone) : Type 0 where
   pub numbers : map (λ (d : CommandDone). d.number) replied ≡ counted (commands_met start) (length commands)
   pub lines : map (λ (d : CommandDone). d.line) replied ≡ map (λ (c : CommandItem). c.line) commands

@@ -10,7 +10,7 @@ use Rattle.lawful_run.specs.LinesTold.{LineTold}
 use Rattle.lawful_run.specs.Merging.{merged, events_in}
 use Rattle.subscriber.specs.Standing.{SubscriberState, StandsFor}
 use Rattle.control_half.specs.declared.items.CommandItem.{CommandItem}
-use Rattle.counter_half.specs.declared.items.FlowItem.{FlowItem}
+use Rattle.counter_half.specs.declared.items.DataItem.{DataItem}
 use Rattle.counter_half.specs.declared.items.PacketDone.{PacketDone}
 use Rattle.split_record.specs.Finishing.{commands_in, counts_told, events_told}
 
@@ -28,10 +28,10 @@ with_counts (count ∷ counts) (placed ∷ later) =
 
 -- the commands and packets of a slot that an epoch's lines brought and that were accepted, these numbered from a count
 -- on
-pub record AreOfLines (slot next : ℕ) (lines : List LineTold) (commands : List CommandItem) (items : List FlowItem)
+pub record AreOfLines (slot next : ℕ) (lines : List LineTold) (commands : List CommandItem) (items : List DataItem)
     : Type 0 where
   pub commands_are : commands_in commands ≡ commands_accepted slot lines
-  pub packets_are : map (λ (item : FlowItem). item.packet) items ≡ numbered_from next (packets_accepted slot lines)
+  pub packets_are : map (λ (item : DataItem). item.packet) items ≡ numbered_from next (packets_accepted slot lines)
 
 -- the epoch's events of a slot, where its packets meet so many commands
 abbrev pub events_met : ℕ → List Event → List LineTold → List ℕ → List Event
@@ -42,7 +42,7 @@ events_met slot before lines counts =
 -- the events that the halves tell are the epoch's, at the counts that they noted
 abbrev pub EventsAreOfLines : Type 0
 EventsAreOfLines = (start : SubscriberState) (slot : ℕ) (before : List Event) (taken : ℕ) (lines : List LineTold)
-    (commands : List CommandItem) (items : List FlowItem) (judged : List PacketDone)
+    (commands : List CommandItem) (items : List DataItem) (judged : List PacketDone)
     → StandsFor start slot before taken → AreOfLines slot start.packets lines commands items
     → events_told start commands items judged ≡ events_met slot before lines (counts_told judged)
 

@@ -7,10 +7,10 @@ use Rattle.control_half.specs.Half as control
 use Rattle.control_half.specs.Published.{in_batches, in_kept}
 use Rattle.control_half.specs.declared.items.CommandItem.{CommandItem}
 use Rattle.pc_base.specs.declared.packet.Place.{Place}
-use Rattle.counter_half.specs.Half as flow
+use Rattle.counter_half.specs.Half as data_half
 use Rattle.counter_half.specs.Handled.{places_in}
 use Rattle.counter_half.specs.State.{learnt_by}
-use Rattle.counter_half.specs.declared.items.FlowItem.{FlowItem}
+use Rattle.counter_half.specs.declared.items.DataItem.{DataItem}
 use Rattle.counter_half.specs.declared.items.PacketDone.{PacketDone}
 use Rattle.split_record.specs.Closing.{HasLeft, AreItems}
 use Rattle.split_record.specs.Finishing.{AllMeetBehind, handled_as, counts_told}
@@ -19,7 +19,7 @@ use Rattle.split_record.specs.Rejoined.{start_of, commands_sent}
 use Rattle.split_record.specs.declared.origin.Origin.{Origin}
 use Rattle.split_record.specs.declared.parts.Stage.{Stage}
 use Rattle.split_record.specs.declared.parts.Stage.TheVariants as stages
-use Rattle.split_record.specs.declared.parts.Open.{Open}
+use Rattle.split_record.specs.declared.parts.OpenHalves.{OpenHalves}
 use Rattle.split_record.specs.declared.parts.Halfway.{Halfway}
 use Rattle.split_record.specs.declared.parts.Commanded.{Commanded}
 use Rattle.split_record.specs.declared.closing.Closing.{Closing}
@@ -31,12 +31,12 @@ start_in origin = start_of origin.front.value
 abbrev pub commands_in : Origin → List CommandItem
 commands_in origin = commands_sent origin.front.value
 
-abbrev pub items_in_all : Origin → List FlowItem
-items_in_all origin = flow.handled_by origin.flow.value ++ origin.left.value.items
+abbrev pub items_in_all : Origin → List DataItem
+items_in_all origin = data_half.handled_by origin.data_half.value ++ origin.left.value.items
 
 -- how many of them the half had handled
 abbrev pub handled_early : Origin → ℕ
-handled_early origin = length (flow.handled_by origin.flow.value)
+handled_early origin = length (data_half.handled_by origin.data_half.value)
 
 -- what is told of the packets that were left
 abbrev pub LeftMeetAll : Origin → List PacketDone → Type 0
@@ -49,19 +49,19 @@ bound_for origin = origin.front.value.destination
 
 -- where those that the half had handled were handled, and where those that were left will be
 abbrev pub places_in_all : Origin → List Place
-places_in_all origin = flow.places_of origin.flow.value ++ at_closing origin.left.value.items
+places_in_all origin = data_half.places_of origin.data_half.value ++ at_closing origin.left.value.items
 
 -- both lanes are open: nothing is changed yet
-pub record IsOpen (origin : Origin) (open_now : Open) : Type 0 where
+pub record IsOpen (origin : Origin) (open_now : OpenHalves) : Type 0 where
   pub session : (control.end_name open_now.control).session ≡ (start_in origin).session
   pub number : (control.end_name open_now.control).number ≡ commands_met (start_in origin)
   pub commands : (control.end_name open_now.control).commands ≡ sender_lane open_now.lane
-  pub versions : (control.end_name open_now.control).versions ≡ (flow.rest_name open_now.flow).versions
-  pub started : (flow.rest_name open_now.flow).started ≡ start_in origin
+  pub versions : (control.end_name open_now.control).versions ≡ (data_half.rest_name open_now.data_half).versions
+  pub started : (data_half.rest_name open_now.data_half).started ≡ start_in origin
   pub sent_are : sent open_now.lane ≡ commands_in origin
-  pub items : AreItems (items_in_all origin) open_now.flow.state.handled.items open_now.left.items
-  pub places : places_in open_now.flow.state.notes.items ++ at_closing open_now.left.items ≡ places_in_all origin
-  pub early : length open_now.flow.state.handled.items ≡ handled_early origin
+  pub items : AreItems (items_in_all origin) open_now.data_half.state.handled.items open_now.left.items
+  pub places : places_in open_now.data_half.state.notes.items ++ at_closing open_now.left.items ≡ places_in_all origin
+  pub early : length open_now.data_half.state.handled.items ≡ handled_early origin
 
 -- the commands that a control half has still to apply
 abbrev pub waiting_in : Commanded → ℕ → List CommandItem
@@ -71,7 +71,7 @@ abbrev pub commands_left : Closing → List CommandItem
 commands_left closing = waiting_in closing.control closing.applied
 
 -- the packets that it has still to handle
-abbrev pub items_left : Closing → List FlowItem
+abbrev pub items_left : Closing → List DataItem
 items_left closing = drop closing.handled closing.left.items
 
 -- the lane of commands is closed
@@ -79,12 +79,12 @@ pub record IsHalfway (origin : Origin) (half : Halfway) : Type 0 where
   pub left_to_do : HasLeft (start_in origin) (commands_in origin) half.control.controller.session
       half.control.controller.number half.control.controller.notes.items half.control.due (waiting_in half.control 0)
       (in_batches (sent half.versions) ++ in_kept half.control.kept)
-  pub versions : sender_lane half.versions ≡ receiver_lane half.flow.versions
+  pub versions : sender_lane half.versions ≡ receiver_lane half.data_half.versions
   pub roomy : HasRoomFor (start_in origin).session (commands_met (start_in origin))
-  pub started : (flow.rest_name half.flow).started ≡ start_in origin
-  pub items : AreItems (items_in_all origin) half.flow.state.handled.items half.left.items
-  pub places : places_in half.flow.state.notes.items ++ at_closing half.left.items ≡ places_in_all origin
-  pub early : length half.flow.state.handled.items ≡ handled_early origin
+  pub started : (data_half.rest_name half.data_half).started ≡ start_in origin
+  pub items : AreItems (items_in_all origin) half.data_half.state.handled.items half.left.items
+  pub places : places_in half.data_half.state.notes.items ++ at_closing half.left.items ≡ places_in_all origin
+  pub early : length half.data_half.state.handled.items ≡ handled_early origin
 
 -- both are
 pub record IsClosing (origin : Origin) (closing : Closing) : Type 0 where
@@ -115,6 +115,6 @@ pub record IsDone (origin : Origin) (closing : Closing) : Type 0 where
 
 -- how far they are together
 pub record IsAt (origin : Origin) (stage : Stage) : Type 0 where
-  pub opens : (open_now : Open) → stage ≡ stages.Open open_now → IsOpen origin open_now
+  pub opens : (open_now : OpenHalves) → stage ≡ stages.Open open_now → IsOpen origin open_now
   pub halfway : (half : Halfway) → stage ≡ stages.Halfway half → IsHalfway origin half
   pub closing : (closing_now : Closing) → stage ≡ stages.Closing closing_now → IsClosing origin closing_now

@@ -2,8 +2,8 @@
 use Rattle.std.specs.Prelude.{List, map}
 use Rattle.pc_base.specs.declared.packet.Place.{Place}
 use Rattle.pc_base.specs.declared.packet.Place.TheVariants.{Closing}
-use Rattle.counter_half.specs.declared.items.FlowItem.{FlowItem}
+use Rattle.counter_half.specs.declared.items.DataItem.{DataItem}
 
 -- packets that are left are handled at the end of an epoch
-abbrev pub at_closing : List FlowItem → List Place
-at_closing left = map (λ (item : FlowItem). Closing) left
+abbrev pub at_closing : List DataItem → List Place
+at_closing left = map (λ (item : DataItem). Closing) left

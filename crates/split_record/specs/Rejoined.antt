@@ -10,9 +10,9 @@ use Rattle.subscriber.specs.Standing.{SubscriberState, StandsFor, commands_met, 
 use Rattle.control_half.specs.declared.half.ControlHalf.{ControlHalf}
 use Rattle.control_half.specs.Half as control
 use Rattle.control_half.specs.declared.items.CommandItem.{CommandItem}
-use Rattle.counter_half.specs.declared.half.FlowHalf.{FlowHalf}
-use Rattle.counter_half.specs.declared.items.FlowItem.{FlowItem}
-use Rattle.counter_half.specs.Half as flow
+use Rattle.counter_half.specs.declared.half.DataHalf.{DataHalf}
+use Rattle.counter_half.specs.declared.items.DataItem.{DataItem}
+use Rattle.counter_half.specs.Half as data_half
 use Rattle.counter_half.specs.Tells.{AreLate}
 use Rattle.split_record.specs.Accepted.{MayStand, AreNumbered}
 use Rattle.split_record.specs.Finishing.{Comes, Notes}
@@ -31,23 +31,23 @@ abbrev pub commands_sent : FrontEnd → List CommandItem
 commands_sent front = sent front.lane
 
 -- the three come from one split
-pub record AreOfOneSplit (front : FrontEnd) (half : ControlHalf) (counter : FlowHalf) : Type 0 where
+pub record AreOfOneSplit (front : FrontEnd) (half : ControlHalf) (counter : DataHalf) : Type 0 where
   pub session : (control.name_of half).session ≡ (start_of front).session
   pub number : (control.name_of half).number ≡ commands_met (start_of front)
   pub commands : (control.name_of half).commands ≡ sender_lane front.lane
-  pub versions : (control.name_of half).versions ≡ (flow.name_of counter).versions
-  pub started : (flow.name_of counter).started ≡ start_of front
+  pub versions : (control.name_of half).versions ≡ (data_half.name_of counter).versions
+  pub started : (data_half.name_of counter).started ≡ start_of front
 
 -- The items that were handled, and those that are left: as many as were counted, each of the subscriber, under its
 -- number; each may stand among the commands; and moments don't fall, from the last one before the split on.
-pub record AreAccepted (front : FrontEnd) (items : List FlowItem) : Type 0 where
+pub record AreAccepted (front : FrontEnd) (items : List DataItem) : Type 0 where
   pub counted : front.packets ≡ (start_of front).packets + length items
   pub numbered : AreNumbered front.slot (start_of front).packets items
   pub standing : All (MayStand (commands_met (start_of front)) (commands_sent front)) items
-  pub late : AreLate (unwrap_or (last_of (start_of front)) 0) (map (λ (i : FlowItem). i.packet.moment) items)
+  pub late : AreLate (unwrap_or (last_of (start_of front)) 0) (map (λ (i : DataItem). i.packet.moment) items)
 
 -- what comes of a subscriber's halves, whatever its events before the split
-pub record Finishes (start : SubscriberState) (commands : List CommandItem) (items : List FlowItem) (destination : ℕ)
+pub record Finishes (start : SubscriberState) (commands : List CommandItem) (items : List DataItem) (destination : ℕ)
     (finished : Finished) : Type 0 where
   pub notes : Notes start commands items finished.commands.items finished.packets.items
   pub comes : (slot : ℕ) (before : List Event) (taken : ℕ) → StandsFor start slot before taken
@@ -80,7 +80,7 @@ pub record Sends (old : FrontEnd) (line : ℕ) (command : CommandKind) (new : Fr
   pub fulls : full_answers new.lane ≡ full_answers old.lane
 
 -- the item of a packet: it has the next number, and the commands before the last move for a floor
-pub record IsItemOf (front : FrontEnd) (line : ℕ) (parked : Bool) (packet : Packet) (item : FlowItem) : Type 0 where
+pub record IsItemOf (front : FrontEnd) (line : ℕ) (parked : Bool) (packet : Packet) (item : DataItem) : Type 0 where
   pub slot : item.slot ≡ front.slot
   pub number : item.number ≡ front.packets
   pub floor : item.floor ≡ front.commands_before
@@ -90,7 +90,7 @@ pub record IsItemOf (front : FrontEnd) (line : ℕ) (parked : Bool) (packet : Pa
 
 -- a subscriber was split, with lanes of a room for its commands and its versions
 pub record IsSplit (start : SubscriberState) (room hop : ℕ) (front : FrontEnd) (half : ControlHalf)
-    (counter : FlowHalf) : Type 0 where
+    (counter : DataHalf) : Type 0 where
   pub started : front.started.value ≡ start
   pub slot : front.slot ≡ start.session.slot
   pub one : AreOfOneSplit front half counter
@@ -98,5 +98,5 @@ pub record IsSplit (start : SubscriberState) (room hop : ℕ) (front : FrontEnd)
   pub counts : (front.commands ≡ commands_met start) × (front.packets ≡ start.packets)
   pub floors : (front.commands_before ≡ commands_met start) × (front.packets_before ≡ start.packets)
   pub hop_is : (front.hop ≡ hop) × (control.hop_of half ≡ hop)
-  pub rooms : ((sender_lane front.lane).room ≡ room) × ((flow.name_of counter).versions.room ≡ room)
-  pub handled : flow.handled_by counter ≡ []
+  pub rooms : ((sender_lane front.lane).room ≡ room) × ((data_half.name_of counter).versions.room ≡ room)
+  pub handled : data_half.handled_by counter ≡ []

@@ -13,7 +13,7 @@ use crate::parts::Commanded;
 use crate::{Finished, NoMemory};
 use bearer_state::Version;
 use control_half::{Batch, Controller};
-use counter_half::{FlowItem, HalfState};
+use counter_half::{DataItem, HalfState};
 use pc_base::{Place, SliceNo};
 use std::alloc::Global;
 use subscriber::Subscriber;
@@ -30,7 +30,7 @@ pub(crate) struct Closing {
     /// Batches that aren't learnt, in the order in which they are published.
     pub(crate) batches: Vec<Batch<Version>>,
     /// Packets that were accepted and not handled, and how many are handled now.
-    pub(crate) left: Vec<FlowItem>,
+    pub(crate) left: Vec<DataItem>,
     pub(crate) handled: usize,
 }
 

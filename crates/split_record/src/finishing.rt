@@ -11,7 +11,7 @@ ghost use Rattle.split_record.specs.Places.{at_closing};
 use crate::{FrontEnd, RecordParts};
 use charging_book::ChargeRow;
 use control_half::{CommandDone, ControlHalf};
-use counter_half::{FlowHalf, FlowItem, PacketDone, VersionDone};
+use counter_half::{DataHalf, DataItem, PacketDone, VersionDone};
 use std::alloc::Global;
 use std::sync::Wait;
 use subscriber::Subscriber;
@@ -31,7 +31,7 @@ pub struct Finished {
 }
 
 /// Does what the halves of a subscriber have left to do, with the packets that were accepted and that no
-/// one handled, and makes them one record. The three come from one split. The items that the counter half
+/// one handled, and makes them one record. The three come from one split. The items that the data half
 /// handled and those that are left are those that the front end counted, in order, and their moments don't
 /// fall. Those that are left are handled at the end of an epoch (`Place::Closing`). Out of memory, all is
 /// handed back.
@@ -40,21 +40,21 @@ pub fn finish<R: Wait>(
     alloc: Global,
     front: FrontEnd,
     control: ControlHalf,
-    flow: FlowHalf,
-    left: Vec<FlowItem>,
+    data_half: DataHalf,
+    left: Vec<DataItem>,
 ) -> Result<Finished, RecordParts>
-    requires one { AreOfOneSplit front control flow }
-    requires accepted { AreAccepted front (handled_by flow ++ left.items) }
+    requires one { AreOfOneSplit front control data_half }
+    requires accepted { AreAccepted front (handled_by data_half ++ left.items) }
 
     ensures finished { IfOk result (λ made. Finishes (start_of front) (commands_sent front)
-        (handled_by flow ++ left.items) front.destination made) }
-    ensures placed { IfOk result (λ made. places_in made.packets.items ≡ places_of flow ++ at_closing left.items) }
+        (handled_by data_half ++ left.items) front.destination made) }
+    ensures placed { IfOk result (λ made. places_in made.packets.items ≡ places_of data_half ++ at_closing left.items) }
 
     // A packet that was left has each command before it that the floors allow.
-    ensures met { IfOk result (λ made. AllMeetBehind (length (handled_by flow)) (commands_met (start_of front))
-        (commands_sent front) (handled_as (handled_by flow ++ left.items) (counts_told made.packets.items))) }
+    ensures met { IfOk result (λ made. AllMeetBehind (length (handled_by data_half)) (commands_met (start_of front))
+        (commands_sent front) (handled_as (handled_by data_half ++ left.items) (counts_told made.packets.items))) }
 
-    ensures parts { IfErr result (λ parts. IsOf parts front flow left.items) }
+    ensures parts { IfErr result (λ parts. IsOf parts front data_half left.items) }
 {
-    RecordParts::new(alloc, front, control, flow, left).again(rt)
+    RecordParts::new(alloc, front, control, data_half, left).again(rt)
 }

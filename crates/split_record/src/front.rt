@@ -5,7 +5,7 @@ ghost use Rattle.subscriber.specs.Standing.{commands_met};
 ghost use Rattle.control_half.specs.declared.items.CommandItem.{CommandItem};
 
 use control_half::{BoxedCommand, CommandItem};
-use counter_half::FlowItem;
+use counter_half::DataItem;
 use lane_core::{Full, Sender};
 use pc_base::{Packet, SliceNo, Slot};
 use std::snapshot::Snapshot;
@@ -84,7 +84,7 @@ impl FrontEnd {
     }
 
     /// The item of a packet, which takes the next number. It isn't counted before it is `accepted`.
-    pub fn packet_item(&self, line: u64, parked: bool, packet: Packet) -> FlowItem
+    pub fn packet_item(&self, line: u64, parked: bool, packet: Packet) -> DataItem
         ensures made { IsItemOf self.now line parked packet result }
 
         // It may stand among the commands that were accepted, whatever more are accepted later.
@@ -96,7 +96,7 @@ impl FrontEnd {
             octets,
             ..
         } = packet;
-        FlowItem {
+        DataItem {
             slot: self.slot,
             number: self.packets,
             floor: self.commands_before,

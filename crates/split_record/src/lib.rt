@@ -1,5 +1,5 @@
 //! A subscriber in two halves, and one again: it is split into a front end, which numbers what
-//! comes, a control half and a counter half; brought together they finish what is left. Who turns the
+//! comes, a control half and a data half; brought together they finish what is left. Who turns the
 //! halves meanwhile, and where, is left to others.
 #![tactic(auto)]
 

@@ -1,28 +1,28 @@
 //! What a subscriber's parts come from, which clauses alone read.
 use crate::FrontEnd;
-use counter_half::{FlowHalf, FlowItem};
+use counter_half::{DataHalf, DataItem};
 use std::snapshot::Snapshot;
 
-/// The front end, the counter half and the packets that were left, as they were when the subscriber was to
+/// The front end, the data half and the packets that were left, as they were when the subscriber was to
 /// be one again.
 #[derive(Drop)]
 pub(crate) struct Origin {
     pub(crate) front: Snapshot<FrontEnd>,
-    pub(crate) flow: Snapshot<FlowHalf>,
-    pub(crate) left: Snapshot<Vec<FlowItem>>,
+    pub(crate) data_half: Snapshot<DataHalf>,
+    pub(crate) left: Snapshot<Vec<DataItem>>,
 }
 
 impl Origin {
     ghost use Rattle.std.specs.Prelude.{◌≡◌};
 
-    pub(crate) fn of(front: &FrontEnd, flow: &FlowHalf, left: &Vec<FlowItem>) -> Origin
+    pub(crate) fn of(front: &FrontEnd, data_half: &DataHalf, left: &Vec<DataItem>) -> Origin
         ensures front { result.front.value ≡ front.now }
-        ensures flow { result.flow.value ≡ flow.now }
+        ensures data_half { result.data_half.value ≡ data_half.now }
         ensures left { result.left.value ≡ left.now }
     {
         Origin {
             front: Snapshot::of(front),
-            flow: Snapshot::of(flow),
+            data_half: Snapshot::of(data_half),
             left: Snapshot::of(left),
         }
     }

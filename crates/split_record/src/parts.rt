@@ -12,7 +12,7 @@ use crate::origin::Origin;
 use crate::{Finished, FrontEnd};
 use bearer_state::Version;
 use control_half::{Batch, CommandItem, ControlEnd, ControlHalf, Controller};
-use counter_half::{FlowHalf, FlowItem, FlowRest};
+use counter_half::{DataHalf, DataItem, DataRest};
 use lane_core::{Sender, close};
 use pc_base::SliceNo;
 use std::alloc::Global;
@@ -34,7 +34,7 @@ pub struct RecordParts {
 #[derive(Drop)]
 pub(crate) enum Stage {
     /// Both lanes are open.
-    Open(Open),
+    Open(OpenHalves),
     /// The lane of commands is closed.
     Halfway(Halfway),
     /// Both are.
@@ -43,11 +43,11 @@ pub(crate) enum Stage {
 
 /// The halves with both lanes open.
 #[derive(Drop)]
-pub(crate) struct Open {
+pub(crate) struct OpenHalves {
     pub(crate) lane: Sender<CommandItem>,
     pub(crate) control: ControlEnd,
-    pub(crate) flow: FlowRest,
-    pub(crate) left: Vec<FlowItem>,
+    pub(crate) data_half: DataRest,
+    pub(crate) left: Vec<DataItem>,
 }
 
 /// The halves with the lane of versions open.
@@ -55,8 +55,8 @@ pub(crate) struct Open {
 pub(crate) struct Halfway {
     pub(crate) control: Commanded,
     pub(crate) versions: Sender<Batch<Version>>,
-    pub(crate) flow: FlowRest,
-    pub(crate) left: Vec<FlowItem>,
+    pub(crate) data_half: DataRest,
+    pub(crate) left: Vec<DataItem>,
 }
 
 /// What a control half has done, and the commands that it has still to do.
@@ -79,14 +79,14 @@ impl RecordParts {
         alloc: Global,
         front: FrontEnd,
         control: ControlHalf,
-        flow: FlowHalf,
-        left: Vec<FlowItem>,
+        data_half: DataHalf,
+        left: Vec<DataItem>,
     ) -> RecordParts
-        requires one { AreOfOneSplit front control flow }
-        requires accepted { AreAccepted front (handled_by flow ++ left.items) }
-        ensures { IsOf result front flow left.items }
+        requires one { AreOfOneSplit front control data_half }
+        requires accepted { AreAccepted front (handled_by data_half ++ left.items) }
+        ensures { IsOf result front data_half left.items }
     {
-        let origin = Origin::of(&front, &flow, &left);
+        let origin = Origin::of(&front, &data_half, &left);
         let FrontEnd {
             destination,
             lane,
@@ -96,10 +96,10 @@ impl RecordParts {
             alloc,
             origin,
             destination,
-            stage: Stage::Open(Open {
+            stage: Stage::Open(OpenHalves {
                 lane,
                 control: control.into_end(),
-                flow: flow.into_rest(),
+                data_half: data_half.into_rest(),
                 left,
             }),
         }
@@ -172,17 +172,17 @@ fn closed_behind<R: Wait>(
     }
 }
 
-impl Open {
+impl OpenHalves {
     /// The lane of commands is closed. Out of memory, all is as before.
-    fn closed<R: Wait>(self, rt: &R, alloc: Global, origin: &Origin) -> Result<Halfway, Open>
+    fn closed<R: Wait>(self, rt: &R, alloc: Global, origin: &Origin) -> Result<Halfway, OpenHalves>
         requires at { IsOpen origin.now self }
         ensures ok { IfOk result (λ half. IsHalfway origin.now half) }
         ensures err { IfErr result (λ back. IsOpen origin.now back) }
     {
-        let Open {
+        let OpenHalves {
             lane,
             control,
-            flow,
+            data_half,
             left,
         } = self;
         let ControlEnd {
@@ -205,10 +205,10 @@ impl Open {
                     rest,
                 },
                 versions,
-                flow,
+                data_half,
                 left,
             }),
-            Err(ends) => Err(Open {
+            Err(ends) => Err(OpenHalves {
                 lane: ends.tx,
                 control: ControlEnd {
                     started,
@@ -220,7 +220,7 @@ impl Open {
                     commands: ends.rx,
                     versions,
                 },
-                flow,
+                data_half,
                 left,
             }),
         }
@@ -237,14 +237,14 @@ impl Halfway {
         let Halfway {
             control,
             versions,
-            flow,
+            data_half,
             left,
         } = self;
-        let FlowRest {
+        let DataRest {
             state,
             batch,
             versions: learning,
-        } = flow;
+        } = data_half;
         match close(rt, alloc, versions, learning) {
             Ok(batches) => Ok(Closing {
                 control,
@@ -258,7 +258,7 @@ impl Halfway {
             Err(ends) => Err(Halfway {
                 control,
                 versions: ends.tx,
-                flow: FlowRest {
+                data_half: DataRest {
                     state,
                     batch,
                     versions: ends.rx,

@@ -5,7 +5,7 @@ ghost use Rattle.split_record.specs.Rejoined.{IsSplit};
 
 use crate::FrontEnd;
 use control_half::ControlHalf;
-use counter_half::{FlowHalf, FlowRest, HalfState};
+use counter_half::{DataHalf, DataRest, HalfState};
 use lane_core::lane;
 use std::alloc::Global;
 use std::snapshot::Snapshot;
@@ -18,7 +18,7 @@ pub fn split(
     subscriber: Subscriber,
     room: u32,
     hop: u64,
-) -> Result<(FrontEnd, ControlHalf, FlowHalf), Subscriber>
+) -> Result<(FrontEnd, ControlHalf, DataHalf), Subscriber>
     requires room { (1 ≤ room) × (room ≤ 256) }
     requires few { HasRoom subscriber }
     ensures ok { IfOk result (λ halves. IsSplit subscriber room hop halves.0 halves.1 halves.2) }
@@ -40,8 +40,8 @@ pub fn split(
     } = subscriber;
     let slot = session.slot;
     let number = version.number;
-    let flow = match FlowHalf::new(&session, version, counters, packets, versions) {
-        Ok(flow) => flow,
+    let data_half = match DataHalf::new(&session, version, counters, packets, versions) {
+        Ok(data_half) => data_half,
         Err((version, counters)) => {
             return Err(Subscriber {
                 session,
@@ -65,10 +65,10 @@ pub fn split(
                 packets_before: packets,
                 commands_before: number,
             };
-            Ok((front, control, flow))
+            Ok((front, control, data_half))
         }
         Err(session) => {
-            let FlowRest { state, .. } = flow.into_rest();
+            let DataRest { state, .. } = data_half.into_rest();
             let HalfState {
                 version,
                 counters,

@@ -5,3 +5,11 @@ pub mod FitBuckets
 pub mod FitHeld
 pub mod FitPieces
 pub mod FitLemmas
+pub mod PieceLemmas
+pub mod MeterLemmas
+pub mod PlanLemmas
+pub mod BroughtLemmas
+pub mod ChargeLemmas
+pub mod AlikeFits
+pub mod PlaceLemmas
+pub mod SubscriberLemmas

@@ -1,2 +1,5 @@
 pub mod Standing
 pub mod Fitting
+pub mod Alike
+pub mod Charging
+pub mod Subscribers

@@ -30,7 +30,7 @@ mod number;
 
 pub use address::read_address;
 pub use fields::{cut, has_empty_field, next_piece};
-pub use head::{HEAD_LEN, Head};
+pub use head::Head;
 pub use hexadecimal::{decode, read_lower_octets, read_octets};
 pub use kept::Text;
 pub use laws::{

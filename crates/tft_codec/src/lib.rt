@@ -40,7 +40,7 @@ pub use filter::{
     UPLINK_ONLY,
 };
 pub use laws::{faults_or_spells, reads_back, spells_one};
-pub use reading::{component_at, read};
+pub use reading::read;
 pub use std::alloc::AllocError as NoMemory;
 pub use tft::{
     ADD_FILTERS, BearerFilters, CREATE_TFT, DELETE_FILTERS, DELETE_TFT, NO_OPERATION,

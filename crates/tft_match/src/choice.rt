@@ -7,7 +7,7 @@ ghost use Rattle.tft_match.specs.Ends.{AreEnds};
 ghost use Rattle.tft_match.specs.Walk.{IsFirstRank, Leads};
 
 use crate::direction::Direction;
-use crate::ends::{Ends, ends_of};
+use crate::ends::{PacketEnds, ends_of};
 use crate::fitting::fits;
 use ipv4_packet::Ip4;
 use tft_codec::BearerFilters;
@@ -82,7 +82,7 @@ fn first_with(
     before: Option<Rank>,
     row: &BearerFilters,
     packet: &Ip4<'_>,
-    ends: &Ends,
+    ends: &PacketEnds,
 ) -> Option<Rank>
     requires ends { AreEnds packet.now ends.now }
     requires down { ends.now.direction ≡ Direction.Down }

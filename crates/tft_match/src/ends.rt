@@ -8,7 +8,7 @@ use ipv4_packet::Ip4;
 /// Where a packet goes, and its addresses and ports by that; it may have no ports. Remote is the far end, local the
 /// user (TS 24.008, section 10.5.6.12).
 #[derive(Drop)]
-pub struct Ends {
+pub struct PacketEnds {
     pub direction: Direction,
     pub remote_address: u32,
     pub local_address: u32,
@@ -17,7 +17,7 @@ pub struct Ends {
 }
 
 /// The ends of a packet: a downlink packet comes from the far end, and an uplink packet goes there.
-pub fn ends_of(packet: &Ip4<'_>, direction: Direction) -> Ends
+pub fn ends_of(packet: &Ip4<'_>, direction: Direction) -> PacketEnds
     ensures ends { AreEnds packet.now result }
     ensures direction { result.direction ≡ direction }
 {
@@ -26,14 +26,14 @@ pub fn ends_of(packet: &Ip4<'_>, direction: Direction) -> Ends
         None => (None, None),
     };
     match direction {
-        Direction::Down => Ends {
+        Direction::Down => PacketEnds {
             direction,
             remote_address: packet.source(),
             local_address: packet.destination(),
             remote_port: source_port,
             local_port: destination_port,
         },
-        Direction::Up => Ends {
+        Direction::Up => PacketEnds {
             direction,
             remote_address: packet.destination(),
             local_address: packet.source(),

@@ -5,7 +5,7 @@ ghost use Rattle.tft_match.specs.Ends.{AreEnds};
 ghost use Rattle.tft_match.specs.Fit.{agree_under, is_within, is_wanted, holds, Fits, fits};
 
 use crate::direction::{Direction, counts_in};
-use crate::ends::{Ends, ends_of};
+use crate::ends::{PacketEnds, ends_of};
 use ipv4_packet::Ip4;
 use tft_codec::{Component, Filter};
 
@@ -19,7 +19,7 @@ pub fn matches(filter: &Filter, packet: &Ip4<'_>, direction: Direction) -> bool
 }
 
 /// The same, where the ends of the packet are found.
-pub(crate) fn fits(filter: &Filter, packet: &Ip4<'_>, ends: &Ends) -> bool
+pub(crate) fn fits(filter: &Filter, packet: &Ip4<'_>, ends: &PacketEnds) -> bool
     requires { AreEnds packet.now ends.now }
     ensures { result ≡ fits ends.now.direction packet.now filter.now }
 {
@@ -27,7 +27,7 @@ pub(crate) fn fits(filter: &Filter, packet: &Ip4<'_>, ends: &Ends) -> bool
         && all_hold(filter.components.as_slice(), packet, ends)
 }
 
-fn all_hold(components: &[Component], packet: &Ip4<'_>, ends: &Ends) -> bool
+fn all_hold(components: &[Component], packet: &Ip4<'_>, ends: &PacketEnds) -> bool
     requires { AreEnds packet.now ends.now }
     ensures { result ≡ list_all (holds ends.now.direction packet.now) components.now }
 {
@@ -37,7 +37,7 @@ fn all_hold(components: &[Component], packet: &Ip4<'_>, ends: &Ends) -> bool
 }
 
 /// Whether a packet with these ends meets a component (TS 24.008, section 10.5.6.12).
-pub fn holds(component: &Component, packet: &Ip4<'_>, ends: &Ends) -> bool
+pub fn holds(component: &Component, packet: &Ip4<'_>, ends: &PacketEnds) -> bool
     requires { AreEnds packet.now ends.now }
     ensures { result ≡ holds ends.now.direction packet.now component.now }
 {

@@ -30,6 +30,6 @@ mod laws;
 
 pub use choice::choose;
 pub use direction::{Direction, counts_in};
-pub use ends::{Ends, ends_of};
+pub use ends::{PacketEnds, ends_of};
 pub use fitting::{holds, matches};
 pub use laws::{chosen_is_taken, one_filter_decides};

@@ -1,5 +1,6 @@
 //! The kinds of line with their arguments.
-ghost use Rattle.std.specs.Prelude.{◌≡◌, ◌≢◌, ◌⊎◌, ◌∷◌, [], ℕ, List, Ok, Err, IfOk, IfErr, MatchResult, true, false};
+ghost use Rattle.std.specs.Prelude.{◌≡◌, ◌≢◌, ◌⊎◌, ◌∷◌, [], ℕ, List, Ok, Err, IfOk, OnOk, IfErr};
+ghost use Rattle.std.specs.Prelude.{MatchResult, true, false};
 ghost use Rattle.text_fields.specs.Fields.{space, pieces_left};
 ghost use Rattle.trace_lines.specs.Beside.{with_octets};
 ghost use Rattle.trace_lines.specs.Memory.{is_message, has_octets};
@@ -17,31 +18,33 @@ use crate::{LineBad, LineKind};
 use pc_base::Peer;
 use text_fields::{Text, next_piece};
 
-// Its octets, if it has some, are read in place of those that stood there.
+// The kind goes into its place, and its octets, if it has some, in place of those that stood there.
 #[inline(always)]
 pub(crate) fn read_kind(
+    kind: &mut LineKind,
     octets: &mut Text,
     word: &[u8],
     arguments: Option<&[u8]>,
-) -> Result<LineKind, LineBad>
-    ensures kind { IfOk result (λ kind. kind_meaning word.now (pieces_left space arguments.entry)
-        ≡ Ok (with_octets kind octets.new)) }
+) -> Result<(), LineBad>
+    ensures kind { OnOk result (kind_meaning word.now (pieces_left space arguments.entry)
+        ≡ Ok (with_octets kind.new octets.new)) }
     ensures refusal { IfErr result (λ why. (why ≡ NoMemory)
         ⊎ (kind_meaning word.now (pieces_left space arguments.entry) ≡ Err why)) }
     ensures memory { result ≡ Err NoMemory → has_octets word.now ≡ true }
 {
     if word == b"S1U".as_slice() {
         read_message(octets, arguments)?;
-        Ok(LineKind::S1u)
+        *kind = LineKind::S1u;
     } else if word == b"SGI".as_slice() {
         read_message(octets, arguments)?;
-        Ok(LineKind::Sgi)
+        *kind = LineKind::Sgi;
     } else if word == b"S11".as_slice() {
         read_message(octets, arguments)?;
-        Ok(LineKind::S11)
+        *kind = LineKind::S11;
     } else {
-        read_order(octets, word, arguments)
+        *kind = read_order(octets, word, arguments)?;
     }
+    Ok(())
 }
 
 // The operator's orders.

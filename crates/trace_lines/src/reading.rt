@@ -69,11 +69,10 @@ pub fn read_line_in(
         ⊎ (line_meaning least number text.now ≡ Err why)) }
     ensures memory { result ≡ Err NoMemory → wants_octets (fields_of text.now) ≡ true }
 {
-    match read_fields(&mut line.octets, text, least) {
-        Ok((moment, kind)) => {
+    match read_fields(&mut line.kind, &mut line.octets, text, least) {
+        Ok(moment) => {
             line.number = number;
             line.moment = moment;
-            line.kind = kind;
             Ok(())
         }
         Err(why) => {
@@ -110,11 +109,16 @@ fn refused(text: &[u8], why: LineBad) -> LineBad
     }
 }
 
-// The moment and the kind of a line, with its octets in their place, where no field is empty.
+// The moment of a line, with its kind and its octets in their places, where no field is empty.
 #[inline(always)]
-fn read_fields(octets: &mut Text, text: &[u8], least: Moment) -> Result<(Moment, LineKind), LineBad>
-    ensures line { (number : ℕ) → IfOk result (λ read. line_of_fields least number (fields_of text.now)
-        ≡ Ok (record { number = number; moment = read.0; kind = with_octets read.1 octets.new })) }
+fn read_fields(
+    kind: &mut LineKind,
+    octets: &mut Text,
+    text: &[u8],
+    least: Moment,
+) -> Result<Moment, LineBad>
+    ensures line { (number : ℕ) → IfOk result (λ moment. line_of_fields least number (fields_of text.now)
+        ≡ Ok (record { number = number; moment = moment; kind = with_octets kind.new octets.new })) }
     ensures refusal { (number : ℕ) → IfErr result (λ why. (why ≡ NoMemory)
         ⊎ (line_of_fields least number (fields_of text.now) ≡ Err why)) }
     ensures memory { result ≡ Err NoMemory → wants_octets (fields_of text.now) ≡ true }
@@ -126,9 +130,9 @@ fn read_fields(octets: &mut Text, text: &[u8], least: Moment) -> Result<(Moment,
     let (word, arguments) = cut(b' ', rest);
     let moment = read_in(moment, 0, LAST_MOMENT)?;
     let moment = Moment(moment);
-    let kind = read_kind(octets, word, arguments)?;
+    read_kind(kind, octets, word, arguments)?;
     if moment < least {
         return Err(LineBad::MomentBack);
     }
-    Ok((moment, kind))
+    Ok(moment)
 }

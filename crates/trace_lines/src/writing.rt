@@ -7,8 +7,7 @@ ghost use Rattle.trace_lines.specs.Beside.{with_octets};
 ghost use Rattle.trace_lines.specs.Text.{arguments, kind_word, line_text};
 
 use crate::{LineKind, TraceLine};
-use hex_display::Hexadecimal;
-use pc_base::{Moment, Octets};
+use pc_base::{Hexadecimal, Moment, Octets};
 use std::alloc::{AllocError as NoMemory, Global};
 use std::fmt;
 use text_fields::{Head, Text};

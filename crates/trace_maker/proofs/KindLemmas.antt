@@ -11,7 +11,7 @@ use Rattle.trace_lines.specs.Line.{IsKind, IsLine, IsOctets}
 use Rattle.trace_maker.specs.Packets.{server, packet, uplink}
 use Rattle.trace_maker.specs.Plan.{line_of}
 use Rattle.trace_maker.specs.Said.{IsSaid, digit, imsi_of, kind_of}
-use Rattle.trace_maker.specs.declared.maker.Plan.{Plan}
+use Rattle.trace_maker.specs.declared.maker.LinePlan.{LinePlan}
 use Rattle.trace_maker.specs.declared.said.Said.{Said}
 use Rattle.trace_maker.specs.declared.said.Said.TheVariants.{Attach, Up, Down, Rates, Move}
 
@@ -88,5 +88,5 @@ is_kind (Down slot len) in_range = packet_octets len server (addr_of slot)
 is_kind (Rates slot rate) in_range = (is_imsi slot, omega (arith, in_range.1), omega (arith, in_range.1))
 is_kind (Move slot slice) in_range = (is_imsi slot, omega (arith, in_range.1))
 
-pub is_line : (plan : Plan) → plan.moment < 2 ^ 50 → IsSaid plan.said → IsLine (line_of plan)
+pub is_line : (plan : LinePlan) → plan.moment < 2 ^ 50 → IsSaid plan.said → IsLine (line_of plan)
 is_line plan early in_range = record { moment = early; kind = is_kind plan.said in_range }

@@ -24,7 +24,7 @@ use Rattle.trace_maker.specs.Numbering.{IsShort}
 use Rattle.trace_maker.specs.Packets.{server, packet, uplink, downlink}
 use Rattle.trace_maker.specs.Plan.{line_of}
 use Rattle.trace_maker.specs.Said.{IsSaid, imsi_of, kind_of}
-use Rattle.trace_maker.specs.declared.maker.Plan.{Plan}
+use Rattle.trace_maker.specs.declared.maker.LinePlan.{LinePlan}
 use Rattle.trace_maker.specs.declared.said.Said.{Said}
 use Rattle.trace_maker.specs.declared.said.Said.TheVariants.{Attach, Up, Down, Rates, Move}
 use Rattle.trace_maker.proofs.KindLemmas.{is_imsi, is_kind, is_line}
@@ -140,7 +140,7 @@ is_text moment (Move slot slice) early in_range =
     (then (imsi_of slot) (decimal slice) (digits (imsi_of slot) (is_imsi slot))
     (number slice (omega (arith, in_range.1))))))
 
-pub is_short : (plan : Plan) → plan.moment < 2 ^ 50 → IsSaid plan.said → IsShort (line_of plan)
+pub is_short : (plan : LinePlan) → plan.moment < 2 ^ 50 → IsSaid plan.said → IsShort (line_of plan)
 is_short plan early in_range =
     let text = is_text plan.moment plan.said early in_range in
     record {

@@ -3,7 +3,7 @@ use Rattle.std.proofs.Common.{◌≡◌, ℕ, ◌<◌, ◌≤◌, List, [], ◌�
 use Rattle.std.proofs.lemmas.Grind.{flat_map-append}
 use Rattle.std.specs.Io.KnownBytes.{Appends}
 use Rattle.pc_outside.specs.Faults.{Rises}
-use Rattle.pc_outside.specs.Fronts.{AppendsFront}
+use Rattle.pc_outside.specs.Fronts.{AppendsPrefix}
 use Rattle.pc_outside.proofs.KnownOctets.{appends_both, appends_none}
 use Rattle.trace_lines.specs.Line.{Line}
 use Rattle.trace_maker.specs.Generated.{row_of, text_of}
@@ -80,7 +80,7 @@ whole old mid new text left all made none sent =
 
 -- a prefix of the rest was written
 pub cut : (old mid new : Option (List ℕ)) (text : List ℕ) (left all : List Line) → IsMade old mid text left all
-    → AppendsFront mid new text → AppendsFront old new (text_of all)
+    → AppendsPrefix mid new text → AppendsPrefix old new (text_of all)
 cut old mid new text left all made sent = record {
   front = text_of made.front ++ sent.front;
   rest = sent.rest ++ text_of left;

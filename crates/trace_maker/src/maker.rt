@@ -56,12 +56,12 @@ impl Maker {
 
     // The next line, and the maker of those behind it.
     #[tactic(auto, using(crate::proofs::Steps::attach_next, crate::proofs::Steps::drawn_next))]
-    pub(crate) fn next(&self) -> Option<(Plan, Maker)>
+    pub(crate) fn next(&self) -> Option<(LinePlan, Maker)>
         ensures { MatchOption result (self.now ≡ []) (λ next. IsSaid next.0.said
             × (self.now ≡ line_of next.0 ∷ next.1)) }
     {
         if self.attached < self.subscribers {
-            let plan = Plan {
+            let plan = LinePlan {
                 number: u64::from(self.attached) + 1,
                 moment: Moment(0),
                 said: Said::Attach {
@@ -80,7 +80,7 @@ impl Maker {
             let drawn = self.drawn + 1;
             let mut draws = self.draws;
             let said = draw_line(&mut draws, self.subscribers);
-            let plan = Plan {
+            let plan = LinePlan {
                 number: u64::from(self.subscribers) + u64::from(drawn),
                 moment: Moment(100 * u64::from(drawn)),
                 said,
@@ -101,7 +101,7 @@ impl Maker {
 
 /// What a line is made of.
 #[derive(Clone, Copy)]
-pub(crate) struct Plan {
+pub(crate) struct LinePlan {
     pub number: u64,
     pub moment: Moment,
     pub said: Said,
@@ -109,7 +109,7 @@ pub(crate) struct Plan {
 
 // The line that is planned.
 #[tactic(auto, using(crate::proofs::KindLemmas::is_line))]
-pub(crate) fn line_of(alloc: Global, plan: Plan) -> Result<TraceLine, NoMemory>
+pub(crate) fn line_of(alloc: Global, plan: LinePlan) -> Result<TraceLine, NoMemory>
     requires { IsSaid plan.said }
     ensures { IfOk result (λ line. line ≡ line_of plan) }
 {

@@ -4,14 +4,14 @@ ghost use Rattle.std.specs.Prelude.{IfOk, IfSome, OnOk, OnErr};
 ghost use Rattle.std.specs.Io.KnownBytes.{Appends};
 ghost use Rattle.hex.specs.Hex.{encode_lower};
 ghost use Rattle.pc_outside.specs.Faults.{Rises};
-ghost use Rattle.pc_outside.specs.Fronts.{AppendsFront};
+ghost use Rattle.pc_outside.specs.Fronts.{AppendsPrefix};
 ghost use Rattle.trace_lines.specs.Text.{arguments, kind_word, line_text};
 ghost use Rattle.trace_maker.specs.Generated.{made, text_of};
 ghost use Rattle.trace_maker.specs.Plan.{line_of};
 ghost use Rattle.trace_maker.specs.Said.{IsSaid, kind_of};
 ghost use Rattle.trace_maker.specs.Written.{AppendsLines, PushesLine};
 
-use crate::maker::{Maker, Plan, line_of};
+use crate::maker::{LinePlan, Maker, line_of};
 use crate::packets::{push_downlink, push_uplink};
 use crate::said::Said;
 use pc_base::NoMemory;
@@ -58,7 +58,7 @@ pub fn make<K: Sink>(
 
     // A fault leaves a prefix of the text; without memory the lines before are whole.
     ensures cut { result ≡ Err MakeNo.WriteFault
-        → AppendsFront (K.written sink.old) (K.written sink.new) (text_of (made seed subscribers lines)) }
+        → AppendsPrefix (K.written sink.old) (K.written sink.new) (text_of (made seed subscribers lines)) }
     ensures no_memory { result ≡ Err MakeNo.NoMemory
         → AppendsLines (K.written sink.old) (K.written sink.new) (made seed subscribers lines) }
 
@@ -81,7 +81,7 @@ pub fn make<K: Sink>(
 fn write_text<K: Sink>(sink: &mut K, text: &mut Text) -> Result<(), MakeNo>
     ensures whole { OnOk result (Appends (K.written sink.old) (K.written sink.new) text.old) }
     ensures emptied { OnOk result (text.new ≡ []) }
-    ensures cut { OnErr result (AppendsFront (K.written sink.old) (K.written sink.new) text.old) }
+    ensures cut { OnErr result (AppendsPrefix (K.written sink.old) (K.written sink.new) text.old) }
     ensures no_other { OnErr result (result ≡ Err MakeNo.WriteFault) }
 
     ensures later { K.faults sink.old ≤ K.faults sink.new }
@@ -120,7 +120,7 @@ fn push_plan(
     alloc: Global,
     text: &mut Text,
     octets: &mut Vec<u8>,
-    plan: Plan,
+    plan: LinePlan,
 ) -> Result<(), NoMemory>
     requires { IsSaid plan.said }
     ensures { OnOk result (text.new ≡ text.old ++ line_text (line_of plan)) }

@@ -2,7 +2,7 @@
 use Rattle.std.proofs.Common.{◌≡◌, ℕ, ◌+◌, ◌<◌, ◌^◌, Bool, true, false, if◌then◌else◌, List, [], ◌∷◌, ◌++◌, Option, Result, Ok, Err, OnOk, OnErr, length, sym, ap, subst, ◌∙◌, arith, append_assoc, length-append}
 use Rattle.std.specs.Io.KnownBytes.{Appends}
 use Rattle.std.proofs.KnownBytes.{Appends-trans}
-use Rattle.pc_outside.specs.Fronts.{AppendsFront}
+use Rattle.pc_outside.specs.Fronts.{AppendsPrefix}
 use Rattle.trace_lines.specs.Epochs.{ends_epoch, octets_in}
 use Rattle.trace_lines.specs.Input.{Input}
 use Rattle.trace_lines.specs.Line.{Line}
@@ -129,9 +129,9 @@ pub breaks_off : (number : ℕ) (result : Result (Unit {0}) Unwritten) (may_have
     (represents : List (List Line) → List Line → List ℕ → List ℕ → Type 0) (size : Size) (text : List ℕ)
     (done : List Line) (sent : List ℕ) (old mid new : Option (List ℕ)) → Appends old mid sent
     → StandingFrom number may_have places represents size [] done (sent ++ text) → (result ≡ Err unwritten.WriteFault)
-    → OnErr result (AppendsFront mid new text) → BreaksOff may_have places done old new
+    → OnErr result (AppendsPrefix mid new text) → BreaksOff may_have places done old new
 breaks_off number result may_have places represents size text done sent old mid new written standing failed fails =
-    let cut : AppendsFront mid new text = subst (λ r. OnErr r (AppendsFront mid new text)) failed fails in
+    let cut : AppendsPrefix mid new text = subst (λ r. OnErr r (AppendsPrefix mid new text)) failed fails in
     record {
       closed = standing.closed;
       open_ = standing.open_;
@@ -175,7 +175,7 @@ pub ends_cut : (begin : Beginning) (may_have : Input → Report → Type 0) (pla
     (start left old mid new : Option (List ℕ)) (done : List Line) (sent text : List ℕ)
     → (ending ≡ ReadFault → source_failed)
     → WhereTold start left (λ octets rest. ReachedFrom begin ending octets rest done)
-    → IsDueFrom begin.number may_have places ending done (sent ++ text) → Appends old mid sent → AppendsFront mid new text
+    → IsDueFrom begin.number may_have places ending done (sent ++ text) → Appends old mid sent → AppendsPrefix mid new text
     → RunsFrom begin may_have places status.WriteFault source_failed start left old new
 ends_cut begin may_have places ending source_failed start left old mid new done sent text failed reached due written cut =
     runs_cut begin may_have places ending source_failed start left old new done (sent ++ cut.front) cut.rest failed reached

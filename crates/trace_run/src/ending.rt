@@ -2,7 +2,7 @@
 ghost use Rattle.std.specs.Prelude.{◌≡◌, ◌≤◌, [], Err, OnOk, OnErr};
 ghost use Rattle.std.specs.Io.KnownBytes.{Appends};
 ghost use Rattle.pc_outside.specs.Faults.{Rises};
-ghost use Rattle.pc_outside.specs.Fronts.{AppendsFront};
+ghost use Rattle.pc_outside.specs.Fronts.{AppendsPrefix};
 ghost use Rattle.trace_run.specs.Noted.{bad_at};
 ghost use Rattle.trace_run.specs.Status.{status_at, status_without};
 
@@ -50,7 +50,7 @@ impl From<AllocError> for Unwritten {
 /// Writes these octets.
 pub fn write_octets<K: Sink>(sink: &mut K, octets: &[u8]) -> Result<(), Unwritten>
     ensures moved { OnOk result (Appends (K.written sink.old) (K.written sink.new) octets.now) }
-    ensures cut { OnErr result (AppendsFront (K.written sink.old) (K.written sink.new) octets.now) }
+    ensures cut { OnErr result (AppendsPrefix (K.written sink.old) (K.written sink.new) octets.now) }
     ensures no_other { OnErr result (result ≡ Err Unwritten.WriteFault) }
 
     ensures later { K.faults sink.old ≤ K.faults sink.new }
@@ -66,7 +66,7 @@ pub fn write_octets<K: Sink>(sink: &mut K, octets: &[u8]) -> Result<(), Unwritte
 pub fn write_report<K: Sink>(sink: &mut K, report: &mut Text) -> Result<(), Unwritten>
     ensures moved { OnOk result (Appends (K.written sink.old) (K.written sink.new) report.old) }
     ensures emptied { OnOk result (report.new ≡ []) }
-    ensures cut { OnErr result (AppendsFront (K.written sink.old) (K.written sink.new) report.old) }
+    ensures cut { OnErr result (AppendsPrefix (K.written sink.old) (K.written sink.new) report.old) }
     ensures no_other { OnErr result (result ≡ Err Unwritten.WriteFault) }
 
     ensures later { K.faults sink.old ≤ K.faults sink.new }

@@ -9,3 +9,9 @@ pub mod Seeing
 pub mod Seeks
 pub mod Views
 mod Walks
+pub mod DataCauses
+pub mod DataChains
+pub mod DataChanges
+pub mod DataKnowing
+pub mod DataRuns
+pub mod DataSlotSums

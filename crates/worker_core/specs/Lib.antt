@@ -10,3 +10,14 @@ pub mod Seeing
 pub mod Steps
 pub mod Turns
 pub mod Workers
+pub mod DataCounts
+pub mod DataDesks
+pub mod DataDoing
+pub mod DataHanding
+pub mod DataOrders
+pub mod DataPicks
+pub mod DataPlaces
+pub mod DataStays
+pub mod DataSteps
+pub mod DataTurns
+pub mod DataWorkers

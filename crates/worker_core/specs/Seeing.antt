@@ -10,7 +10,8 @@ noted_at seen slot = slice_get seen.at.items slot
 module _ {H : Type 0} (slot_at : H → ℕ) where
   -- each half stands where one of its slot was noted last: so no two are of one slot
   abbrev pub AllSeen : List H → Seen → Type 0
-  AllSeen held seen = (k : ℕ) (none : H) → k < length held → noted_at seen (slot_at (slice_index_or held k none)) ≡ Some k
+  AllSeen held seen = (k : ℕ) (none : H) → k < length held → noted_at seen (slot_at (slice_index_or held k none))
+      ≡ Some k
 
   -- the same, but that from this index on each stands one further to the front
   abbrev pub SeenBehind : ℕ → List H → Seen → Type 0

@@ -1,4 +1,5 @@
--- What a turn of a worker does: it takes an order; or else sends a half home; or else turns halves until one has worked.
+-- What a turn of a worker does: it takes an order; or else sends a half home; or else turns halves until one has
+-- worked.
 use Rattle.std.specs.Prelude.{◌≡◌, ℕ, ◌+◌, ◌-◌, ◌==◌, ◌⊎◌, if◌then◌else◌, not, nat_lt, Option, Some, None, List, []}
 use Rattle.std.specs.Prelude.{◌∷◌, ◌++◌, length, map, slice_get}
 use Rattle.std.specs.List.{position, remove, filter}
@@ -111,7 +112,8 @@ pub record Turned {H N : Type 0} (name : H → N) (turns works : H → ℕ) (tur
 
 -- What a turn did that worked, the first of these that it could: it took an order; no order was there, and the first
 -- half that was due went home; none went, and halves were turned from the cursor round until one worked.
-abbrev pub HasWorked : {H N : Type 0} → (name : H → N) → (slot_at done turns works : H → ℕ) → (turned_at : H → ℕ → Type 0)
+abbrev pub HasWorked : {H N : Type 0} → (name : H → N) → (slot_at done turns works : H → ℕ) →
+    (turned_at : H → ℕ → Type 0)
     → (came_to : Did → H → H → Type 0) → (place : ℕ) → (old new : View H) → Type 0
 HasWorked {H} name slot_at done turns works turned_at came_to place old new =
     TookOrder slot_at old new

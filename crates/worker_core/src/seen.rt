@@ -20,8 +20,8 @@ impl Seen {
         }
     }
 
-    /// Notes that the half of a slot stands at an index. Out of memory nothing is noted; where one of the slot was noted
-    /// before, none is needed.
+    /// Notes that the half of a slot stands at an index. Out of memory nothing is noted; where one of the slot was
+    /// noted before, none is needed.
     pub fn note(&mut self, slot: Slot, index: usize)
         ensures here { IsSome (noted_at self.old slot) → noted_at self.new slot ≡ Some index }
         ensures others { (other at : ℕ) → other ≢ slot → noted_at self.old other ≡ Some at

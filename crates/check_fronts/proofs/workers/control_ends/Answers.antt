@@ -1,6 +1,6 @@
 use Rattle.std.proofs.Common.{◌≡◌, length, arith}
 use Rattle.worker_core.specs.Workers.{end_lanes, worker_lanes}
-use Rattle.front_close.proofs.Popping.{popped_none}
+use Rattle.front_core.proofs.Popping.{popped_none}
 use Rattle.check_fronts.proofs.Ends.{all_ended, none_ended, nothing_left, one_ended}
 use Rattle.check_fronts.proofs.workers.control_ends.Goals as goal
 

@@ -7,7 +7,7 @@ use Rattle.command_words.specs.Program.{Gives}
 use Rattle.command_words.specs.Turns.{turns_asked}
 use Rattle.command_words.specs.declared.jobs.Job.TheVariants as job
 use Rattle.command_words.specs.declared.jobs.Lanes.{Lanes}
-use Rattle.command_words.specs.declared.turns.Turns.{Turns}
+use Rattle.command_words.specs.declared.turns.AskedTurns.{AskedTurns}
 use Rattle.command_words.proofs.Lookups.{flag_is, lanes_are, value_found}
 use Rattle.command_words.proofs.words.drive_job.Goals as goal
 
@@ -29,7 +29,7 @@ no_turns given lanes some none = ap (option_and_then (λ (lanes : Lanes). option
     (λ turns. job.Drive lanes turns (has_flag (codes "places") given)) (turns_of lanes.slices given))) some
     ∙ ap (option_map (λ turns. job.Drive lanes turns (has_flag (codes "places") given))) none
 
-asked : (given : List Given) (lanes : Lanes) (turns : Turns) → lanes_of given ≡ Some lanes
+asked : (given : List Given) (lanes : Lanes) (turns : AskedTurns) → lanes_of given ≡ Some lanes
     → turns_of lanes.slices given ≡ Some turns
     → drive_job given ≡ Some (job.Drive lanes turns (has_flag (codes "places") given))
 asked given lanes turns some are = ap (option_and_then (λ (lanes : Lanes). option_map

@@ -1,8 +1,8 @@
 use Rattle.std.proofs.Common.{◌≡◌, ℕ, ◌+◌, List, length, map, drop}
-use Rattle.epoch_join.specs.Filling.{filled}
+use Rattle.lawful_run.specs.Filling.{filled}
 use Rattle.epoch_drive.specs.Joins.{AllShort, mets_at, replies_at}
 use Rattle.epoch_drive.specs.Kept.{meaning_in}
-use Rattle.driven_run.specs.Opened.{open_entries}
+use Rattle.epoch_drive.specs.DrivenOpened.{open_entries}
 use Rattle.epoch_drive.specs.Telling.{AreShort}
 use Rattle.epoch_drive.proofs.EntryLemmas.{Joins}
 use Rattle.epoch_drive.proofs.joining.join.Given as goal

@@ -1,11 +1,11 @@
 use Rattle.std.proofs.Common.{ℕ, get_or, set, refl, ap, ◌∙◌}
-use Rattle.epoch_drive.specs.declared.replays.Answers.{Answers}
+use Rattle.epoch_drive.specs.declared.replays.SlotReplays.{SlotReplays}
 use Rattle.epoch_drive.proofs.joining.next_packet.Goals as goal
 
 pub returns : goal.returns
 returns c =
-    let own : Answers = c.index_mut-own.result.now in
-    let after : Answers = record { replies = own.replies; packets = c.pop_front.new.self } in
+    let own : SlotReplays = c.index_mut-own.result.now in
+    let after : SlotReplays = record { replies = own.replies; packets = c.pop_front.new.self } in
     record {
       before = own;
       after = after;

@@ -2,7 +2,7 @@ use Rattle.std.proofs.Common.{get_or, set, refl, ap, ◌∙◌}
 use Rattle.std.specs.Borrow.{Bor}
 use Rattle.std.proofs.lemmas.List.{map_push}
 use Rattle.control_steps.specs.declared.command.CommandKind.{CommandKind}
-use Rattle.slot_replay.specs.Replaying.{commands_lent}
+use Rattle.slot_execution.specs.Replaying.{commands_lent}
 use Rattle.epoch_drive.specs.declared.sharing.Share.{Share}
 use Rattle.epoch_drive.proofs.sharing.give_command.Goals as goal
 

@@ -1,10 +1,10 @@
 use Rattle.std.proofs.Common.{◌≡◌, ◌+◌, ◌<◌, ◌++◌, ◌∷◌, [], length, get_or, set, refl, sym, ap, subst, ◌∙◌, arith}
 use Rattle.std.proofs.lemmas.List.{map_push}
 use Rattle.demux.specs.declared.packet.LentPacket.{LentPacket}
-use Rattle.slice_schedule.specs.Slots.{Met}
-use Rattle.schedule_run.specs.Plan.{mets_of}
-use Rattle.slot_replay.specs.Replaying.{counts_of, places_of}
-use Rattle.slot_replay.specs.declared.placed.Placed.{Placed}
+use Rattle.epoch_schedule.specs.Slots.{Met}
+use Rattle.epoch_schedule.specs.Plan.{mets_of}
+use Rattle.slot_execution.specs.Replaying.{counts_of, places_of}
+use Rattle.slot_execution.specs.declared.placed.Placed.{Placed}
 use Rattle.subscriber.specs.Standing.{SubscriberState}
 use Rattle.epoch_drive.specs.Shares.{packets_lent}
 use Rattle.epoch_drive.specs.declared.sharing.Share.{Share}

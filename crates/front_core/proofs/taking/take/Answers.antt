@@ -1,9 +1,9 @@
 use Rattle.std.proofs.Common.{◌+◌, refl, sym, subst}
 use Rattle.demux.specs.Meant.{meaning_of}
 use Rattle.demux.specs.declared.meant.Meant.{Meant}
-use Rattle.front_halves.proofs.Settling.{settles_none}
+use Rattle.front_core.proofs.Settling.{settles_none}
 use Rattle.front_core.specs.Taking.{Takes}
-use Rattle.front_core.specs.declared.taken.Open.TheVariants as entry
+use Rattle.front_core.specs.declared.taken.OpenEntry.TheVariants as entry
 use Rattle.front_core.proofs.taking.take.Goals as goal
 
 pub returns-in-Note-clause-takes : goal.returns-in-Note-clause-takes

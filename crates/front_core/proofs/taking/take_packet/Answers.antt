@@ -1,7 +1,7 @@
 use Rattle.std.proofs.Common.{◌≡◌, ◌+◌, slice_set, subst}
 use Rattle.demux.specs.Trace.{packet}
-use Rattle.front_halves.specs.declared.tried.Given.{Given}
-use Rattle.front_halves.specs.Tries.{CountsTries, GivesPacket}
+use Rattle.front_core.specs.declared.tried.Given.{Given}
+use Rattle.front_core.specs.Tries.{CountsTries, GivesPacket}
 use Rattle.front_core.proofs.Takings.{admits_at, makes, packet_came, packet_refused, takes_give}
 use Rattle.front_core.proofs.Counting.{accepted_so, full_so}
 use Rattle.front_core.proofs.taking.take_packet.Goals as goal

@@ -1,6 +1,6 @@
 use Rattle.std.proofs.Common.{rules, ◌≡◌, ◌∙◌, ◌^◌, Option, None, length, get_or, sym, ap, subst}
 use Rattle.std.proofs.lemmas.List.{get_or-set_same}
-use Rattle.migration.specs.declared.place.Place.{Place}
+use Rattle.migration.specs.declared.place.ControlPlace.{ControlPlace}
 use Rattle.migration.specs.Places.{PlaceFits, is_admitted, place_at}
 use Rattle.migration.specs.Steps.{Moves, NewlyWaits}
 use Rattle.migration.proofs.SideSteps.{same_default}
@@ -28,7 +28,7 @@ returns-clause-moves g c =
       c.go.new.place,
       c.requires.within,
       search rules,
-      subst (λ (p : Option (Place g.row.H.Denot)). Moves c.args.slot c.args.slice c.args.until p c.go.new.place
+      subst (λ (p : Option (ControlPlace g.row.H.Denot)). Moves c.args.slot c.args.slice c.args.until p c.go.new.place
           c.args.desks.now.items c.go.new.desks.items) is c.go.ensures.moves,
     )
 
@@ -40,5 +40,5 @@ returns-clause-newly g c =
     let is : place_at _ c.args.slot ≡ c.go.new.place =
     ap (λ l. place_at l c.args.slot) (search rules) ∙ get_or-set_same c.args.places.now.items c.args.slot
     c.go.new.place None c.requires.within in
-    subst (λ (p : Option (Place g.row.H.Denot) × Option (Place g.row.H.Denot)). NewlyWaits c.go.result p.0 p.1)
+    subst (λ (p : Option (ControlPlace g.row.H.Denot) × Option (ControlPlace g.row.H.Denot)). NewlyWaits c.go.result p.0 p.1)
     (λ i. (was i, sym is i)) c.go.ensures.newly

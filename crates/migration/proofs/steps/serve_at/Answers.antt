@@ -1,5 +1,5 @@
 use Rattle.std.proofs.Common.{rules, ◌≡◌, ◌∙◌, ◌^◌, Option, None, length, get_or, sym, subst}
-use Rattle.migration.specs.declared.place.Place.{Place}
+use Rattle.migration.specs.declared.place.ControlPlace.{ControlPlace}
 use Rattle.migration.specs.Places.{PlaceFits}
 use Rattle.migration.specs.Steps.{PlaceServed}
 use Rattle.migration.proofs.SideSteps.{same_default}
@@ -22,7 +22,7 @@ returns g c =
         c.serve.new.place,
         search rules,
         c.serve.ensures.waits,
-        subst (λ (p : Option (Place g.row.H.Denot)). PlaceServed g.H.Traveller.name g.H.Traveller.hop_of
+        subst (λ (p : Option (ControlPlace g.row.H.Denot)). PlaceServed g.H.Traveller.name g.H.Traveller.hop_of
             c.args.slot p c.serve.new.place c.args.desks.now.items c.serve.new.desks.items) is
             c.serve.ensures.served,
       );

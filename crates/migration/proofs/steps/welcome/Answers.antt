@@ -1,5 +1,5 @@
 use Rattle.std.proofs.Common.{rules, ◌≡◌, ◌<◌, ◌∙◌, Option, None, length, get_or, subst, arith}
-use Rattle.migration.specs.declared.place.Place.{Place}
+use Rattle.migration.specs.declared.place.ControlPlace.{ControlPlace}
 use Rattle.migration.specs.Steps.{Welcomes}
 use Rattle.migration.proofs.SideSteps.{same_default, welcomed_at}
 use Rattle.migration.proofs.steps.welcome.Goals as goal
@@ -12,5 +12,5 @@ returns g c =
     let is = there ∙ same_default c.args.places.now.items c.args.slot c.index_mut.result.now None within in
     welcomed_at c.args.half c.args.slot c.args.places.now.items _ c.received.new.place c.received.result within
     (search rules)
-    (subst (λ (p : Option (Place g.row.H.Denot)). Welcomes c.args.half p c.received.new.place c.received.result) is
+    (subst (λ (p : Option (ControlPlace g.row.H.Denot)). Welcomes c.args.half p c.received.new.place c.received.result) is
     c.received.ensures)

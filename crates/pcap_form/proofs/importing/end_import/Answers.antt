@@ -1,5 +1,5 @@
 use Rattle.std.proofs.Common.{◌≡◌}
-use Rattle.pcap_form.specs.declared.importing.Unwritten.TheVariants.{WriteFault}
+use Rattle.pcap_form.specs.declared.importing.UnwrittenTrace.TheVariants.{WriteFault}
 use Rattle.pcap_form.proofs.ReportLemmas.{ends_cut, ends_whole}
 use Rattle.pcap_form.proofs.importing.end_import.Goals as goal
 

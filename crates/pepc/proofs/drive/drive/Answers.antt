@@ -1,5 +1,5 @@
-use Rattle.drive_run.specs.Standing.{schedule_of}
-use Rattle.drive_run.proofs.Reports.{says_nothing}
+use Rattle.drive_command.specs.Standing.{schedule_of}
+use Rattle.drive_command.proofs.Reports.{says_nothing}
 use Rattle.pepc.proofs.drive.drive.Goals as goal
 
 pub run_report-requires-clause-nothing : goal.run_report-requires-clause-nothing

@@ -13,7 +13,7 @@ returns-in-Err-clause-exports g c =
 pub returns-in-Err-run_lines-clause-exports : goal.returns-in-Err-run_lines-clause-exports
 returns-in-Err-run_lines-clause-exports g c =
     rw c.status_without.ensures
-    (cuts_export (λ (now : Capture). now.waiting.items) c.in-Err-run_lines.why _ _ _ _ _
+    (cuts_export (λ (now : Capture). now.waiting) c.in-Err-run_lines.why _ _ _ _ _
     c.in-Err-run_lines.ensures.cut)
 
 pub returns-in-Ok-write-clause-exports : goal.returns-in-Ok-write-clause-exports

@@ -2,7 +2,7 @@ use Rattle.lawful_run.specs.Setup.{slices_of, solo}
 use Rattle.lawful_run.specs.Trace.{epochs_told, slots_of}
 use Rattle.lawful_run.proofs.LedgerLaws.{reports_are_partitions}
 use Rattle.pepc.specs.Replay.{setup_asked}
-use Rattle.solo_run.specs.Report.{slices}
+use Rattle.solo_command.specs.Report.{slices}
 use Rattle.pepc.proofs.laws.each_packet_is_charged.Goals as goal
 
 pub returns-clause-sequential : goal.returns-clause-sequential

@@ -1,7 +1,7 @@
 use Rattle.std.proofs.Common.{◌+◌, ◌++◌, subst, ap, ◌∙◌}
 use Rattle.std.specs.Io.KnownBytes.{Appends}
-use Rattle.entry_counts.specs.Summary.{summary_text}
-use Rattle.pc_outside.specs.Fronts.{AppendsFront}
+use Rattle.report_lines.specs.Summary.{summary_text}
+use Rattle.pc_outside.specs.Fronts.{AppendsPrefix}
 use Rattle.pepc.proofs.MakeLemmas.{is_summary, summary_cut, summary_whole}
 use Rattle.pepc.proofs.make.write_summary.Goals as goal
 
@@ -24,5 +24,5 @@ returns-clause-makes g c =
     ∙ (λ i. summary_text (c.from.ensures i + c.from-2.ensures i) counts) in
     summary_cut c.args.seed c.args.subs c.args.lines _ _ c.push_summary.new.text.items
     (is_summary c.args.seed c.args.subs c.args.lines counts _ c.in-Ok.ensures told)
-    (subst (AppendsFront (g.K.Sink.written c.args.sink.now) (g.K.Sink.written c.write_whole.new.sink))
+    (subst (AppendsPrefix (g.K.Sink.written c.args.sink.now) (g.K.Sink.written c.write_whole.new.sink))
     c.as_slice.ensures.value c.in-Err-write_whole.ensures.cut)

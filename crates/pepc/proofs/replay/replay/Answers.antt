@@ -1,4 +1,4 @@
-use Rattle.replay_run.proofs.Reports.{says_nothing}
+use Rattle.replay_command.proofs.Reports.{says_nothing}
 use Rattle.pepc.proofs.replay.replay.Goals as goal
 
 pub run_report_in_blocks-requires-clause-nothing : goal.run_report_in_blocks-requires-clause-nothing

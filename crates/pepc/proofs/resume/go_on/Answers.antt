@@ -1,6 +1,6 @@
 use Rattle.std.proofs.Common.{false, ap}
 use Rattle.record_codec.specs.Saved.{FileState}
-use Rattle.resume_run.specs.Reports.{IsResumed}
+use Rattle.solo_command.specs.Reports.{IsResumed}
 use Rattle.pepc.proofs.ResumeReports.{runs_behind, runs_wider}
 use Rattle.pepc.proofs.resume.go_on.Goals as goal
 

@@ -2,8 +2,8 @@ use Rattle.std.proofs.Common.{◌≡◌, ◌+◌, [], ◌∷◌, length, ap, ref
 use Rattle.trace_maker.specs.Generated.{made}
 use Rattle.trace_maker.proofs.ReadLemmas.{length-made}
 use Rattle.pepc.specs.Counting.{Counting, CountsMore}
-use Rattle.solo_run.proofs.ReportLemmas.{says_nothing}
-use Rattle.solo_run.proofs.RunLemmas.{begins}
+use Rattle.solo_command.proofs.ReportLemmas.{says_nothing}
+use Rattle.solo_command.proofs.RunLemmas.{begins}
 use Rattle.pepc.proofs.SummaryLemmas.{all_done, at_none, counting_begins, counting_ends, counting_goes_on, next_in_order, next_is}
 use Rattle.pepc.proofs.summary.counted.Goals as goal
 

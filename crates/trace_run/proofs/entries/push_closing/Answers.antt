@@ -1,5 +1,5 @@
 use Rattle.packet_steps.proofs.ResultLemmas.{on_ok}
-use Rattle.slot_replay.specs.Replaying.{effects_told, rows_told}
+use Rattle.slot_execution.specs.Replaying.{effects_told, rows_told}
 use Rattle.trace_run.specs.Entries.{charges_text, effects_text, lines_text}
 use Rattle.trace_run.specs.Noted.{noted}
 use Rattle.trace_run.proofs.EntryLemmas.{behind_each}

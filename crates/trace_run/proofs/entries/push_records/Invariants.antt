@@ -1,5 +1,5 @@
 use Rattle.std.proofs.Common.{◌≡◌, ◌++◌, Bool, take}
-use Rattle.slot_replay.specs.Replaying.{rows_told}
+use Rattle.slot_execution.specs.Replaying.{rows_told}
 use Rattle.trace_run.specs.Entries.{charges_text}
 use Rattle.trace_run.proofs.entries.push_records.Given as goal
 

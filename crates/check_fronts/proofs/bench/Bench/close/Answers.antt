@@ -2,7 +2,7 @@ use Rattle.std.proofs.Common.{◌++◌, ◌∙◌}
 use Rattle.lawful_run.specs.Merging.{behind}
 use Rattle.lawful_run.specs.Run.{told_in}
 use Rattle.lawful_run.specs.Trace.{meant_from}
-use Rattle.front_close.specs.Filled.{told_by}
+use Rattle.front_core.specs.Filled.{told_by}
 use Rattle.front_core.specs.Words.{opened_of, taken_by}
 use Rattle.check_fronts.proofs.Opens.{opens}
 use Rattle.check_fronts.proofs.bench.Bench.close.Goals as goal
@@ -34,7 +34,7 @@ returns g c =
     record {
       setup = c.requires.setup;
       open_ = opens c.in_ok-open.field-0 c.in_ok-epoch.field-0.rest (is.prior ++ taken_by c.args.self.opened.front)
-          (behind is.before (told_in lines (told_by c.in_ok-epoch.field-0.epoch))) made.whole made.controls made.flows
+          (behind is.before (told_in lines (told_by c.in_ok-epoch.field-0.epoch))) made.whole made.controls made.datas
           made.places.1 made.opened.0 (closes.is_behind is.prior is.behind)
           (closes.represents is.prior is.before is.behind is.represents);
       latest = made.counts.1 ∙ c.in_ok-epoch.ensures.latest ∙ c.requires.latest;

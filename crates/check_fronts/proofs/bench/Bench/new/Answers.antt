@@ -15,7 +15,7 @@ returns c =
     let made = c.in_ok-open.ensures in
     record {
       setup = c.requires;
-      open_ = opens c.in_ok-open.field-0 c.new-rest.result [] no_events made.whole made.controls made.flows
+      open_ = opens c.in_ok-open.field-0 c.new-rest.result [] no_events made.whole made.controls made.datas
           made.places.1 made.opened.0
           c.new-rest.ensures.behind c.new-rest.ensures.represents;
       latest = made.counts.1 ∙ ap (λ (r : Rest). r.latest) c.new-rest.ensures.new;

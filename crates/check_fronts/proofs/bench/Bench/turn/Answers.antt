@@ -14,6 +14,6 @@ pub returns-else-is_multiple_of : goal.returns-else-is_multiple_of
 returns-else-is_multiple_of g c = record {
   setup = c.requires.setup;
   open_ = stays_open c.args.self.now.opened _ c.requires.open_ c.requires.open_.workers.whole refl refl refl refl
-      c.turn_flow.ensures.lanes c.turn_flow.ensures.places;
+      c.turn_data.ensures.lanes c.turn_data.ensures.places;
   latest = c.requires.latest;
 }

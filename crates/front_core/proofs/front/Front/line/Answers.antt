@@ -4,7 +4,7 @@ use Rattle.std.proofs.lemmas.List.{with_items_is}
 use Rattle.demux.specs.Meant.{meaning_of}
 use Rattle.lawful_run.specs.Trace.{meant_next}
 use Rattle.subscriber.specs.Standing.{SubscriberState}
-use Rattle.front_halves.proofs.Settling.{sides_then}
+use Rattle.front_core.proofs.Settling.{sides_then}
 use Rattle.front_core.specs.declared.taken.Taken.{Taken}
 use Rattle.front_core.specs.declared.took.Took.{Took}
 use Rattle.front_core.specs.Counting.{TookTries}
@@ -73,7 +73,7 @@ returns-clause-lanes g c =
     c.pump.new.self new c.as_mut_slice.ensures.value now_is c.in_ok-open.ensures.takes in
     let sides = sides_then old.halves c.pump.new.self new c.pump.ensures.pumps.settles.sides
     (takes_sides (old.lines + 1) (c.args.patience + 1) (meaning_of it) open_ turned now c.pump.new.self new takes) in
-    (sides.control_lanes, sides.flow_lanes)
+    (sides.control_lanes, sides.data_lanes)
 
 pub returns-clause-takes : goal.returns-clause-takes
 returns-clause-takes g c =

@@ -1,6 +1,6 @@
 use Rattle.std.proofs.Common.{rules, ◌≡◌, ◌^◌, ◌+◌, Bool, false, cond, ◌<◌, ◌∙◌, length, refl, sym, ap, subst, arith}
 use Rattle.std.specs.List.{sum_by}
-use Rattle.migration.specs.declared.place.Place.{Place}
+use Rattle.migration.specs.declared.place.ControlPlace.{ControlPlace}
 use Rattle.worker_core.specs.Desks.{lanes_of}
 use Rattle.migration.specs.Places.{is_admitted, place_at}
 use Rattle.migration.specs.Steps.{Admits}
@@ -17,7 +17,7 @@ note-requires g c = λ waits.
 pub invariant_of-self : goal.invariant_of-self
 invariant_of-self g c =
     let mid = c.make_room.new.self in
-    let now : Place g.row.H.Denot = record {
+    let now : ControlPlace g.row.H.Denot = record {
       hop = c.args.hop;
       state = c.send-state.result;
       admitted = c.of-admitted.result;
@@ -48,7 +48,7 @@ invariant_of-self g c =
 pub returns-clause-ok : goal.returns-clause-ok
 returns-clause-ok g c =
     let mid = c.make_room.new.self in
-    let now : Place g.row.H.Denot = record {
+    let now : ControlPlace g.row.H.Denot = record {
       hop = c.args.hop;
       state = c.send-state.result;
       admitted = c.of-admitted.result;

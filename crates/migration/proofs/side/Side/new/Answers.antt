@@ -1,13 +1,13 @@
 use Rattle.std.proofs.Common.{List, sym, subst, arith}
 use Rattle.migration.specs.Sides.{IsSide}
 use Rattle.migration.proofs.PlaceSteps.{new_side}
-use Rattle.migration.specs.declared.place.Place.{Place}
+use Rattle.migration.specs.declared.place.ControlPlace.{ControlPlace}
 use Rattle.std.specs.Prelude.{Option, ℕ}
 use Rattle.migration.proofs.side.Side.new.Goals as goal
 
 pub invariant_of-result : goal.invariant_of-result
 invariant_of-result g c = record {
-  laid = subst (λ (p : List (Option (Place g.row.H.Denot)) × List g.row.H.Denot × List ℕ × List ℕ).
+  laid = subst (λ (p : List (Option (ControlPlace g.row.H.Denot)) × List g.row.H.Denot × List ℕ × List ℕ).
       IsSide g.H.Traveller.name g.H.Traveller.slot_of p.0 p.1 c.args.desks.items p.2 p.3 0 0)
       (λ i. (
         sym c.new.ensures.items i,

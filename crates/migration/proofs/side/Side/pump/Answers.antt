@@ -1,10 +1,11 @@
-use Rattle.std.proofs.Common.{◌∙◌, reverse, ap}
+use Rattle.std.proofs.Common.{◌≡◌, ◌∙◌, List, [], reverse, refl, ap, arith}
+use Rattle.std.specs.List.{sum_by}
 use Rattle.worker_core.specs.Desks.{fulls_at, homes_of}
 use Rattle.migration.specs.Words.{Roll}
-use Rattle.migration.proofs.Servings.{met_full_since}
+use Rattle.migration.proofs.Servings.{met_full_since, serving_all, serving_none}
 use Rattle.worker_core.proofs.Homes.{ended_since}
 use Rattle.migration.proofs.Passes.{passes_then}
-use Rattle.migration.proofs.Pumps.{takes_same}
+use Rattle.migration.proofs.Pumps.{takes_same, lined_up}
 use Rattle.migration.proofs.side.Side.pump.Goals as goal
 
 pub returns-clause-full : goal.returns-clause-full
@@ -35,3 +36,26 @@ returns-clause-by_slot g c = record {
   lined = c.line_up.ensures.lined;
   served = c.serve_all.ensures.each;
 }
+
+pub returns-then-rests-clause-full : goal.returns-then-rests-clause-full
+returns-then-rests-clause-full g c =
+    let none = c.rests.ensures c.if-rests.true in
+    met_full_since _ _ _ _ c.take_all.ensures.fulls
+    (serving_none _ _ _ _ none.1 (serving_all g.H.Traveller.name g.H.Traveller.slot_of _ _ _ _ _ _ _
+    c.take_all.new.self.laid none.0))
+
+pub returns-then-rests-clause-by_slot : goal.returns-then-rests-clause-by_slot
+returns-then-rests-clause-by_slot g c =
+    let none = c.rests.ensures c.if-rests.true in record {
+      home_places = c.take_all.new.self.places.items;
+      home_desks = c.take_all.new.self.desks.items;
+      slots = [];
+      home = c.take_all.ensures.takes;
+      lined = lined_up g.H.Traveller.name g.H.Traveller.slot_of _ _ _ _ _ [] _ _ c.take_all.new.self.laid
+          (λ w. let a = ap (sum_by w) none.0 in let b = ap (sum_by w) none.1 in omega arith)
+          (λ i j d low within. absurd (omega (arith, within)));
+      served = (refl, refl);
+    }
+
+pub returns-then-rests-clause-still : goal.returns-then-rests-clause-still
+returns-then-rests-clause-still g c = λ no. (c.take_all.ensures.still (c.rests.ensures c.if-rests.true).0).1

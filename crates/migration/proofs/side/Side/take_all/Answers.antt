@@ -2,7 +2,7 @@ use Rattle.std.proofs.Common.{true, ◌∙◌, refl, sym, ap, arith}
 use Rattle.migration.specs.Words.{Roll}
 use Rattle.worker_core.proofs.Homes.{below_none, below_more}
 use Rattle.migration.proofs.Passes.{passes_same, passes_then}
-use Rattle.migration.proofs.Pumps.{takes_none, takes_then}
+use Rattle.migration.proofs.Pumps.{takes_none, takes_then, still_none, still_then}
 use Rattle.migration.proofs.side.Side.take_all.Goals as goal
 
 pub loop-slice-init : goal.loop-slice-init
@@ -13,6 +13,7 @@ loop-slice-init g c = (
   passes_same (λ half. g.H.Traveller.slot_of (g.H.Traveller.name half)) g.H.Traveller.hop_of _ _ _ _ _ _ refl refl
       (λ slice. refl),
   takes_none _ _ _ _ refl refl,
+  still_none _ _,
 )
 
 pub loop-slice-preserved : goal.loop-slice-preserved
@@ -25,6 +26,7 @@ loop-slice-preserved g c =
       passes_then (λ half. g.H.Traveller.slot_of (g.H.Traveller.name half)) g.H.Traveller.hop_of _ _ _ _ _ _ _ _ _
           c.loop-slice.invariant.3 c.take_from.ensures.passed,
       takes_then _ _ _ _ _ _ c.loop-slice.invariant.4 c.take_from.ensures.takes,
+      still_then _ _ _ _ _ _ c.loop-slice.invariant.5 c.take_from.ensures.still,
     )
 
 pub returns-clause-home : goal.returns-clause-home
@@ -39,3 +41,6 @@ returns-clause-passed g c = c.loop-slice.invariant.3
 
 pub returns-clause-takes : goal.returns-clause-takes
 returns-clause-takes g c = c.loop-slice.invariant.4
+
+pub returns-clause-still : goal.returns-clause-still
+returns-clause-still g c = c.loop-slice.invariant.5

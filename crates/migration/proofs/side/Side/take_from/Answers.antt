@@ -1,7 +1,7 @@
 use Rattle.std.proofs.Common.{rules, ◌∙◌, refl}
 use Rattle.worker_core.proofs.Homes.{taking_none, taking_more, taking_ends, taking_all}
 use Rattle.migration.proofs.Passes.{passes_same, passes_then}
-use Rattle.migration.proofs.Pumps.{takes_none, takes_then}
+use Rattle.migration.proofs.Pumps.{takes_none, takes_then, still_none, still_then}
 use Rattle.migration.proofs.side.Side.take_from.Goals as goal
 
 pub loop-init : goal.loop-init
@@ -12,6 +12,7 @@ loop-init g c = (
   passes_same (λ half. g.H.Traveller.slot_of (g.H.Traveller.name half)) g.H.Traveller.hop_of _ _ _ _ _ _ refl refl
       (λ slice. refl),
   takes_none _ _ _ _ refl refl,
+  still_none _ _,
 )
 
 pub loop-preserved : goal.loop-preserved
@@ -22,6 +23,7 @@ loop-preserved g c = (
   passes_then (λ half. g.H.Traveller.slot_of (g.H.Traveller.name half)) g.H.Traveller.hop_of _ _ _ _ _ _ _ _ _
       c.loop.invariant.3 c.take_one.ensures.passed,
   takes_then _ _ _ _ _ _ c.loop.invariant.4 c.take_one.ensures.takes,
+  still_then _ _ _ _ _ _ c.loop.invariant.5 c.take_one.ensures.still,
 )
 
 pub returns-then-not-take_one-clause-took : goal.returns-then-not-take_one-clause-took
@@ -46,3 +48,10 @@ returns-then-not-take_one-clause-takes g c =
 
 pub returns-clause-takes : goal.returns-clause-takes
 returns-clause-takes g c = c.loop.invariant.4
+
+pub returns-then-not-take_one-clause-still : goal.returns-then-not-take_one-clause-still
+returns-then-not-take_one-clause-still g c =
+    still_then _ _ _ _ _ _ c.loop.invariant.5 c.take_one.ensures.still
+
+pub returns-clause-still : goal.returns-clause-still
+returns-clause-still g c = c.loop.invariant.5

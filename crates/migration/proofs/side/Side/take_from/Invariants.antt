@@ -2,7 +2,7 @@ use Rattle.std.proofs.Common.{◌≡◌, vec_len}
 use Rattle.migration.specs.Words.{roll_of}
 use Rattle.worker_core.proofs.Homes.{Taking}
 use Rattle.migration.specs.Passes.{Passes}
-use Rattle.migration.specs.Pumps.{TakesHome}
+use Rattle.migration.specs.Pumps.{TakesHome, NoneWaits}
 use Rattle.migration.proofs.side.Side.take_from.Given as goal
 
 abbrev pub invariant-loop : goal.invariant-loop
@@ -14,3 +14,4 @@ invariant-loop g l =
     l.self.places.items l.fn.self.aside.items l.self.aside.items
     l.fn.self.desks.items l.self.desks.items
     × TakesHome l.fn.self.places.items l.self.places.items l.fn.self.desks.items l.self.desks.items
+    × NoneWaits l.fn.self.waiting.items l.self.waiting.items l.fn.self.places.items l.self.places.items

@@ -5,7 +5,7 @@ use Rattle.migration.proofs.PlaceSteps.{waiting_fewer, came_home, kept_aside, le
 use Rattle.worker_core.proofs.Homes.{took_half, took_none}
 use Rattle.migration.proofs.Servings.{roll_same, names_set, hops_set, welcomed_name}
 use Rattle.migration.proofs.Passes.{passes_same, passes_empty, passes_home, passes_aside}
-use Rattle.migration.proofs.Pumps.{takes_none, takes_empty, takes_aside, takes_half}
+use Rattle.migration.proofs.Pumps.{takes_none, takes_empty, takes_aside, takes_half, still_none, still_same, still_came}
 use Rattle.migration.specs.Passes.{Unawaited}
 use Rattle.migration.proofs.side.Side.take_one.Goals as goal
 
@@ -112,3 +112,15 @@ pub returns-in-None-clause-takes : goal.returns-in-None-clause-takes
 returns-in-None-clause-takes g c =
     let w = c.in-None.ensures in
     takes_half c.args.slice c.slot-slot.result c.in-Some.half w.0 _ _ _ _ c.in-Some.ensures.taken w.1 w.2 w.3
+
+pub returns-then-len-self-clause-still : goal.returns-then-len-self-clause-still
+returns-then-len-self-clause-still g c = still_none _ _
+
+pub returns-in_default-clause-still : goal.returns-in_default-clause-still
+returns-in_default-clause-still g c = still_none _ _
+
+pub returns-in-Some-welcome-clause-still : goal.returns-in-Some-welcome-clause-still
+returns-in-Some-welcome-clause-still g c = still_same _ _ _ c.in-Some-welcome.ensures.1
+
+pub returns-in-None-clause-still : goal.returns-in-None-clause-still
+returns-in-None-clause-still g c = still_came _ _ c.slot-slot.result _ _ c.push_reserved-in-None.ensures.items

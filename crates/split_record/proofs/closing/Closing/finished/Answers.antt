@@ -4,7 +4,7 @@ use Rattle.control_half.specs.Published.{in_kept, in_batches}
 use Rattle.counter_half.specs.Handled.{HasHandled, items_in, places_in}
 use Rattle.counter_half.specs.State.{learnt_by}
 use Rattle.counter_half.specs.Tells.{TellsLawfully}
-use Rattle.counter_half.specs.declared.items.FlowItem.{FlowItem}
+use Rattle.counter_half.specs.declared.items.DataItem.{DataItem}
 use Rattle.split_record.specs.Origin.{start_in, commands_in, items_in_all, commands_left, handled_early}
 use Rattle.split_record.specs.Places.{at_closing}
 use Rattle.split_record.proofs.Leaving.{all_applied}
@@ -36,7 +36,7 @@ returns-clause-finished c =
     let tells : TellsLawfully start learnt handled state.version state.counters state.notes.items state.effects.items =
     subst (λ (s : SubscriberState). TellsLawfully s learnt handled state.version state.counters state.notes.items
     state.effects.items) is.started state.tells in
-    let are = is.items ∙ ap (λ (l : List FlowItem). items_in handled ++ l) none.handled
+    let are = is.items ∙ ap (λ (l : List DataItem). items_in handled ++ l) none.handled
     ∙ append-nil (items_in handled) in
     record {
       notes = notes_told start commands items control.session control.number control.notes.items learnt handled
@@ -57,7 +57,7 @@ returns-clause-met c =
     let is = c.requires.at in
     let state = self.state in
     let handled = state.handled.items in
-    let are = is.items ∙ ap (λ (l : List FlowItem). items_in handled ++ l) c.requires.done.handled
+    let are = is.items ∙ ap (λ (l : List DataItem). items_in handled ++ l) c.requires.done.handled
     ∙ append-nil (items_in handled) in
     let has : HasHandled (commands_met (start_in origin)) (start_in origin).packets (learnt_by state) handled state.met
     state.done state.notes.items =
@@ -71,5 +71,5 @@ pub returns-clause-placed : goal.returns-clause-placed
 returns-clause-placed c =
     let is = c.requires.at in
     sym (append-nil (places_in c.args.self.state.notes.items))
-    ∙ ap (λ (l : List FlowItem). places_in c.args.self.state.notes.items ++ at_closing l) (sym c.requires.done.handled)
+    ∙ ap (λ (l : List DataItem). places_in c.args.self.state.notes.items ++ at_closing l) (sym c.requires.done.handled)
     ∙ is.places

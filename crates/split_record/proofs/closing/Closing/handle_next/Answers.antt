@@ -9,7 +9,7 @@ use Rattle.control_half.specs.Published.{in_kept, in_batches}
 use Rattle.counter_half.specs.Handled.{Handled, items_in, places_in}
 use Rattle.counter_half.specs.Learnt.{learnt_in}
 use Rattle.counter_half.specs.declared.items.PacketDone.{PacketDone}
-use Rattle.counter_half.specs.declared.items.FlowItem.{FlowItem}
+use Rattle.counter_half.specs.declared.items.DataItem.{DataItem}
 use Rattle.split_record.specs.Closing.{HasLeft}
 use Rattle.split_record.specs.Finishing.{AllMeetBehind}
 use Rattle.split_record.specs.Origin.{start_in, commands_in, commands_left, items_left, handled_early}
@@ -25,7 +25,7 @@ returns-in_default-clause-done c =
     let beyond : length now.left.items ≤ now.handled = omega (
       arith,
       c.in_default.ensures.lookup.3,
-      ap (λ (l : List FlowItem). length l) c.deref.ensures.value,
+      ap (λ (l : List DataItem). length l) c.deref.ensures.value,
     ) in
     λ _. all_done origin now c.learn_met.ensures.at c.requires.accepted
     (applied_same origin c.args.self.now now c.learn_met.ensures.control c.requires.applied)
@@ -84,13 +84,13 @@ returns-clause-at c =
       roomy = is.roomy;
       few = is.few;
       started = c.meet.ensures.started ∙ is.started;
-      items = is.items ∙ ap (λ (l : List FlowItem). items_in before ++ l) next
+      items = is.items ∙ ap (λ (l : List DataItem). items_in before ++ l) next
           ∙ sym (append_assoc (items_in before) (item ∷ []) rest)
-          ∙ ap (λ (l : List FlowItem). l ++ rest) (sym (map-append (λ (h : Handled). h.0) before (one ∷ [])))
+          ∙ ap (λ (l : List DataItem). l ++ rest) (sym (map-append (λ (h : Handled). h.0) before (one ∷ [])))
           ∙ ap (λ (h : List Handled). items_in h ++ rest) (sym more);
       places = ap (λ (l : List Place). l ++ at_closing rest) c.in_ok-meet.ensures.place
           ∙ append_assoc (places_in now.state.notes.items) (at.Closing ∷ []) (at_closing rest)
-          ∙ ap (λ (l : List FlowItem). places_in now.state.notes.items ++ at_closing l) (sym next) ∙ is.places;
+          ∙ ap (λ (l : List DataItem). places_in now.state.notes.items ++ at_closing l) (sym next) ∙ is.places;
       met = next_met origin now is c.requires.accepted
           (applied_same origin c.args.self.now now c.learn_met.ensures.control c.requires.applied) item rest
           c.meet.new.self.handled.items next c.in_ok-learn_met.ensures.met more;

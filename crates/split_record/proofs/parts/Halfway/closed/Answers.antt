@@ -14,7 +14,7 @@ returns-in-Ok-clause-ok g c =
     let origin = c.args.origin.now in
     let half = c.args.self in
     let done = half.control.controller in
-    let rest = half.flow in
+    let rest = half.data_half in
     let is = c.requires.at in
     record {
       left_to_do = subst (λ (l : List Published). HasLeft (start_in origin) (commands_in origin) done.session

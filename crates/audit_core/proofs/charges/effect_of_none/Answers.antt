@@ -1,0 +1,18 @@
+use Rattle.std.proofs.Common.{arith}
+use Rattle.audit_core.specs.Agreeing.{slot_effected}
+use Rattle.audit_core.proofs.SlotsKnown.{all_known, first_beyond, known_more}
+use Rattle.audit_core.proofs.charges.effect_of_none.Goals as goal
+
+pub returns-then-slot_of_effect-slots-clause-some : goal.returns-then-slot_of_effect-slots-clause-some
+returns-then-slot_of_effect-slots-clause-some c =
+    first_beyond slot_effected c.args.slots c.args.told.now c.loop-one.one-index c.one-item.result c.loop-one-test.true
+    c.one-item.is c.loop-one.invariant (omega (arith, c.slot_of_effect.ensures))
+
+pub loop-one-preserved : goal.loop-one-preserved
+loop-one-preserved c =
+    known_more slot_effected c.args.slots c.args.told.now c.loop-one.one-index c.one-item.result c.loop-one-test.true
+    c.one-item.is c.loop-one.invariant (omega (arith, c.slot_of_effect.ensures))
+
+pub returns-clause-none : goal.returns-clause-none
+returns-clause-none c =
+    all_known slot_effected c.args.slots c.args.told.now c.loop-one.one-index c.loop-one-test.false c.loop-one.invariant

@@ -1,6 +1,0 @@
-use Rattle.std.proofs.Common.{◌≡◌, ℕ, ◌+◌, [], take}
-use Rattle.audit_sentences.specs.Sharing.{under}
-use Rattle.audit_reading.proofs.agreeing.within.Given as goal
-
-abbrev pub invariant-loop-one : goal.invariant-loop-one
-invariant-loop-one g l = (later : ℕ) → under (l.count + later) (take l.one-index l.keyed) ≡ []

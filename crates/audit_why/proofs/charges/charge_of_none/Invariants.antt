@@ -1,8 +1,0 @@
-use Rattle.std.proofs.Common.{take}
-use Rattle.audit_sentences.specs.Entries.{slot_charged}
-use Rattle.audit_reading.specs.Made.{lent}
-use Rattle.audit_why.specs.Charges.{AreOfSlots}
-use Rattle.audit_why.proofs.charges.charge_of_none.Given as goal
-
-abbrev pub invariant-loop-one : goal.invariant-loop-one
-invariant-loop-one l = AreOfSlots slot_charged l.slots (take l.one-index (lent l.told))

@@ -1,8 +1,0 @@
-use Rattle.std.proofs.Common.{take}
-use Rattle.audit_reading.specs.Agreeing.{slot_effected}
-use Rattle.audit_reading.specs.Made.{lent}
-use Rattle.audit_why.specs.Charges.{AreOfSlots}
-use Rattle.audit_why.proofs.charges.effect_of_none.Given as goal
-
-abbrev pub invariant-loop-one : goal.invariant-loop-one
-invariant-loop-one l = AreOfSlots slot_effected l.slots (take l.one-index (lent l.told))

@@ -1,5 +1,0 @@
-use Rattle.audit_why.proofs.BrokenLemmas.{breaks_are_broken}
-use Rattle.audit_why.proofs.laws.breaks_are_broken.Goals as goal
-
-pub returns : goal.returns
-returns c = breaks_are_broken

@@ -1,5 +1,0 @@
-use Rattle.balance_plan.proofs.Stepping.{levels}
-use Rattle.balance_plan.proofs.laws.steps_level.Goals as goal
-
-pub returns : goal.returns
-returns c = λ slices loads step rise below is. levels slices loads step rise below is

@@ -1,5 +1,0 @@
-use Rattle.balance_run.proofs.ApartLemmas.{apart}
-use Rattle.balance_run.proofs.laws.planned_moves_apart.Goals as goal
-
-pub returns : goal.returns
-returns c = λ slices most entries lines. apart slices most entries lines

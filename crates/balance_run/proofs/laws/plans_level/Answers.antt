@@ -1,5 +1,0 @@
-use Rattle.balance_run.proofs.LevelLemmas.{plan_levels}
-use Rattle.balance_run.proofs.laws.plans_level.Goals as goal
-
-pub returns : goal.returns
-returns c = λ slices most done loads rise below. plan_levels slices most done loads rise below

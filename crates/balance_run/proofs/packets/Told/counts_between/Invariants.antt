@@ -1,5 +1,0 @@
-use Rattle.balance_run.specs.Writing.{AreCounts}
-use Rattle.balance_run.proofs.packets.Told.counts_between.Given as goal
-
-abbrev pub invariant-loop-number : goal.invariant-loop-number
-invariant-loop-number l = AreCounts l.counts.items l.slots l.since l.number l.self.entries.now

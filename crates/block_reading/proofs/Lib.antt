@@ -1,2 +1,0 @@
-pub mod ApartLemmas
-pub mod ToldLemmas

@@ -1,8 +1,0 @@
-use Rattle.block_reading.proofs.ApartLemmas.{none_first}
-use Rattle.block_reading.proofs.reader.ahead.Goals as goal
-
-pub returns-then-not-behind_line : goal.returns-then-not-behind_line
-returns-then-not-behind_line g c = none_first _ c.args.front.now c.none_read.ensures
-
-pub returns-in-Err : goal.returns-in-Err
-returns-in-Err g c = none_first _ c.args.front.now c.none_read-in-Err.ensures

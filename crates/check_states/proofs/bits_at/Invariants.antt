@@ -1,5 +1,0 @@
-use Rattle.std.proofs.Common.{◌≤◌, ◌+◌}
-use Rattle.check_states.proofs.bits_at.Given as goal
-
-abbrev pub invariant-loop-bit : goal.invariant-loop-bit
-invariant-loop-bit l = l.digit ≤ 48 + l.bit

@@ -1,4 +1,0 @@
-pub mod Driven
-pub mod Opened
-pub mod Runs
-pub mod Noted

@@ -1,3 +1,0 @@
-pub mod PlusLemmas
-pub mod CountLemmas
-pub mod AddLemmas

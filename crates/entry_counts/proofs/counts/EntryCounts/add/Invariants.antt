@@ -1,9 +1,0 @@
-use Rattle.std.proofs.Common.{length}
-use Rattle.entry_counts.proofs.AddLemmas.{SoFar}
-use Rattle.entry_counts.proofs.counts.EntryCounts.add.Given as goal
-
-abbrev pub invariant-loop-rest : goal.invariant-loop-rest
-invariant-loop-rest l = SoFar l.fn.self l.self l.text l.left
-
-abbrev pub decreases-loop-rest : goal.decreases-loop-rest
-decreases-loop-rest l = length l.left

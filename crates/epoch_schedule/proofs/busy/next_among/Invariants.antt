@@ -1,0 +1,14 @@
+use Rattle.std.proofs.Common.{ℕ, ◌-◌, ◌<◌, ◌≤◌, length, get_or}
+use Rattle.epoch_schedule.specs.Rounds.{place_held}
+use Rattle.epoch_schedule.proofs.busy.next_among.Given as goal
+
+abbrev pub invariant-loop-from : goal.invariant-loop-from
+invariant-loop-from l = record {
+  order : l.from ≤ l.to;
+  few : l.to ≤ length l.list;
+  before : (j : ℕ) → j < l.from → place_held (get_or l.list j 0) l.roster.held < l.roster.cursor;
+  behind : (j : ℕ) → l.to ≤ j → j < length l.list → l.roster.cursor ≤ place_held (get_or l.list j 0) l.roster.held;
+}
+
+abbrev pub decreases-loop-from : goal.decreases-loop-from
+decreases-loop-from l = l.to - l.from

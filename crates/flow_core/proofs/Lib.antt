@@ -1,6 +1,0 @@
-pub mod Causes
-pub mod Chains
-pub mod Changes
-pub mod Knowing
-pub mod Runs
-pub mod SlotSums

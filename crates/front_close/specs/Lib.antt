@@ -1,4 +1,0 @@
-pub mod Closing
-pub mod Ending
-pub mod Filled
-pub mod Placed

@@ -1,4 +1,0 @@
-pub mod Lots
-pub mod Views
-pub mod Steps
-pub mod Tries

@@ -1,4 +1,0 @@
-pub mod Listing
-pub mod Placing
-pub mod Sides
-pub mod Steps

@@ -1,4 +1,0 @@
-pub mod Pushes
-pub mod Parts
-pub mod Loads
-pub mod Keeps

@@ -1,3 +1,0 @@
-pub mod Metering
-pub mod Judging
-pub mod Replayed

@@ -1,5 +1,0 @@
-use Rattle.parts_laws.proofs.SubscriberLemmas.{commands_stay, packets_stay}
-use Rattle.parts_laws.proofs.laws.subscribers_stay_alike.Goals as goal
-
-pub returns : goal.returns
-returns c = record { commands = commands_stay; packets = packets_stay }

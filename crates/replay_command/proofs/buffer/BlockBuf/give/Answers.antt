@@ -1,0 +1,13 @@
+use Rattle.std.proofs.Common.{◌≡◌, ◌+◌, slice_range, ap, sym, ◌∙◌, drop, arith}
+use Rattle.pc_outside.proofs.Parts.{part-behind}
+use Rattle.replay_command.proofs.buffer.BlockBuf.give.Goals as goal
+
+pub returns-clause-front : goal.returns-clause-front
+returns-clause-front c =
+    let items = c.self.inside.octets.items in
+    let from = c.self.inside.from in
+    let to = c.self.inside.to in
+    let len = c.args.len in
+    let next : from + len + 1 ≡ from + (len + 1) = omega arith in
+    ap (λ place. slice_range items place to) next ∙ sym (part-behind items from to (len + 1))
+    ∙ ap (λ held. drop (len + 1) held.front) c.self.view_is

@@ -1,0 +1,4 @@
+pub mod Buffer
+pub mod Apart
+pub mod Epoch
+pub mod Standing

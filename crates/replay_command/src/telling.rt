@@ -1,0 +1,59 @@
+//! The text of what is told of the lines of an epoch over slices.
+ghost use Rattle.std.specs.Prelude.{◌≡◌, ◌++◌, map, OnOk};
+ghost use Rattle.front_core.specs.Filled.{entry_told};
+ghost use Rattle.report_lines.specs.declared.entry.Entry.TheVariants as report_entry;
+ghost use Rattle.report_lines.specs.Text.{line_shown};
+ghost use Rattle.trace_run.specs.Entries.{line_of, lines_text};
+
+use front_core::FrontEntry;
+use std::alloc::AllocError;
+use text_fields::Text;
+use trace_run::{push_answer, push_judged, push_judged_placed, push_note, push_refusal};
+
+// Appends the line of an entry, with its place or without.
+fn push_entry(report: &mut Text, told: &FrontEntry, places: bool) -> Result<(), AllocError>
+    ensures { OnOk result (report.new ≡ report.old
+        ++ line_of (report_entry.Line (line_shown places (entry_told told.now)))) }
+{
+    match told {
+        FrontEntry::Note { line, text } => push_note(report, *line, text.as_slice()),
+        FrontEntry::Answer {
+            line,
+            slot,
+            number,
+            reply,
+        } => push_answer(report, *line, *slot, *number, reply),
+        FrontEntry::Judgement {
+            line,
+            slot,
+            number,
+            commands,
+            verdict,
+            place,
+            parked,
+        } => {
+            if places {
+                push_judged_placed(
+                    report, *line, *slot, *number, *commands, verdict, *place, *parked,
+                )
+            } else {
+                push_judged(report, *line, *slot, *number, *commands, verdict)
+            }
+        }
+        FrontEntry::Refusal { line, slot, packet } => push_refusal(report, *line, *slot, *packet),
+    }
+}
+
+/// Appends the lines of entries, with places or without.
+pub fn push_entries(
+    report: &mut Text,
+    entries: &[FrontEntry],
+    places: bool,
+) -> Result<(), AllocError>
+    ensures { OnOk result (report.new ≡ report.old ++ lines_text places (map entry_told entries.now)) }
+{
+    for entry in entries {
+        push_entry(report, entry, places)?;
+    }
+    Ok(())
+}

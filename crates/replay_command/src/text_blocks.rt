@@ -1,0 +1,142 @@
+//! Texts that are made by blocks in threads.
+ghost use Rattle.std.specs.Prelude.{◌≡◌, ◌<◌, ◌≤◌, ◌++◌, flat_map, length, map, vec_len, OnOk, IfOk};
+ghost use Rattle.std.specs.Thread.{IsSync};
+ghost use Rattle.front_core.specs.Filled.{entry_told};
+ghost use Rattle.trace_run.specs.Entries.{lines_text};
+
+use crate::telling::push_entries;
+use front_core::FrontEntry;
+use std::alloc::{AllocError, Global};
+use std::mem;
+use std::thread::{Threads, join};
+use text_fields::Text;
+
+/// How many entries are told by one thread at most.
+const BLOCK_LEN: usize = 16_384;
+
+/// Appends the lines of entries as `push_entries` does, and lets the entries go. Many are told by blocks, in as many
+/// threads as there are blocks, each into a room of its own. Rooms are kept: the next text of as many entries takes
+/// hardly any memory.
+pub fn push_blocks<R: Threads + Sync>(
+    rt: &R,
+    alloc: Global,
+    entries: Vec<FrontEntry>,
+    places: bool,
+    rooms: &mut Vec<Text>,
+    report: &mut Text,
+) -> Result<(), AllocError>
+    ensures { OnOk result (report.new ≡ report.old ++ lines_text places (map entry_told entries.items)) }
+{
+    if entries.len() <= BLOCK_LEN {
+        return push_entries(report, entries.as_slice(), places);
+    }
+    let kept = mem::replace(rooms, Vec::new(alloc));
+    let own = rooms_for(alloc, kept, (entries.len() - 1) / BLOCK_LEN + 1)?;
+    let told = told_by_blocks(rt, entries.as_slice(), places, own)?;
+    let front = mem::replace(report, Text::new(alloc));
+    let texts = told.as_slice();
+    let (whole, ()) = join(
+        rt,
+        move || -> Result<Text, AllocError>
+            ensures { IfOk result (λ whole. whole ≡ front ++ flat_map (λ text. text) texts.entry.now) }
+        { with_all(front, texts) },
+        move || drop(entries),
+    );
+    *report = whole?;
+    *rooms = told;
+    Ok(())
+}
+
+// So many rooms, those that are kept among them.
+fn rooms_for(alloc: Global, kept: Vec<Text>, many: usize) -> Result<Vec<Text>, AllocError>
+    ensures { IfOk result (λ rooms. vec_len rooms ≡ many) }
+{
+    let mut rooms = kept;
+    rooms.truncate(many);
+    while rooms.len() < many {
+        rooms.push(Text::new(alloc))?;
+    }
+    Ok(rooms)
+}
+
+// The lines of entries, those of each block by a thread of its own: in each room the text of one block.
+fn told_by_blocks<R: Threads + Sync>(
+    rt: &R,
+    entries: &[FrontEntry],
+    places: bool,
+    rooms: Vec<Text>,
+) -> Result<Vec<Text>, AllocError>
+    requires { 0 < vec_len rooms }
+    ensures { IfOk result (λ told. flat_map (λ text. text) told.items
+        ≡ lines_text places (map entry_told entries.now)) }
+{
+    let many = rooms.len();
+    if many == 1 {
+        return told_in_one(entries, places, rooms);
+    }
+    let mut first_rooms = rooms;
+    let other_rooms = first_rooms.split_off(many / 2)?;
+    let (front, back) = entries.split_at(front_len(entries.len(), many));
+    let (first, second) = join(
+        rt,
+        move || -> Result<Vec<Text>, AllocError>
+            requires sync { IsSync R.row }
+            requires rooms { 0 < vec_len first_rooms }
+            ensures { IfOk result (λ told. flat_map (λ text. text) told.items
+                ≡ lines_text places (map entry_told front.entry.now)) }
+        { told_by_blocks(rt, front, places, first_rooms) },
+        move || -> Result<Vec<Text>, AllocError>
+            requires sync { IsSync R.row }
+            requires rooms { 0 < vec_len other_rooms }
+            ensures { IfOk result (λ told. flat_map (λ text. text) told.items
+                ≡ lines_text places (map entry_told back.entry.now)) }
+        { told_by_blocks(rt, back, places, other_rooms) },
+    );
+    both(first?, second?)
+}
+
+// How many of so many entries go into the first half of these rooms.
+fn front_len(entries: usize, rooms: usize) -> usize
+    requires { 0 < rooms }
+    ensures { result ≤ entries }
+{
+    (entries / rooms).saturating_mul(rooms / 2).min(entries)
+}
+
+// The lines of entries in the one room.
+fn told_in_one(
+    entries: &[FrontEntry],
+    places: bool,
+    rooms: Vec<Text>,
+) -> Result<Vec<Text>, AllocError>
+    requires { vec_len rooms ≡ 1 }
+    ensures { IfOk result (λ told. flat_map (λ text. text) told.items
+        ≡ lines_text places (map entry_told entries.now)) }
+{
+    let mut rooms = rooms;
+    let room = &mut rooms[0];
+    room.clear();
+    push_entries(room, entries, places)?;
+    Ok(rooms)
+}
+
+// The texts of one list, and behind them those of another.
+fn both(first: Vec<Text>, second: Vec<Text>) -> Result<Vec<Text>, AllocError>
+    ensures { IfOk result (λ told. told.items ≡ first.items ++ second.items) }
+{
+    let mut told = first;
+    let mut more = second;
+    told.append(&mut more)?;
+    Ok(told)
+}
+
+// A text, and behind it those of a list.
+fn with_all(front: Text, texts: &[Text]) -> Result<Text, AllocError>
+    ensures { IfOk result (λ whole. whole ≡ front ++ flat_map (λ text. text) texts.now) }
+{
+    let mut whole = front;
+    for text in texts {
+        whole.extend_from_slice(text.as_slice())?;
+    }
+    Ok(whole)
+}

@@ -1,2 +1,0 @@
-pub mod Epoch
-pub mod Standing

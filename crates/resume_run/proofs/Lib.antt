@@ -1,4 +1,0 @@
-pub mod LineLemmas
-pub mod EpochLemmas
-pub mod OpenPieces
-pub mod Indexed

@@ -1,7 +1,0 @@
-use Rattle.std.proofs.Common.{take}
-use Rattle.std.specs.Prelude.{All}
-use Rattle.save_run.specs.Known.{IsKnown}
-use Rattle.save_run.proofs.known.known_subscribers.Given as goal
-
-abbrev pub invariant-loop-subscriber : goal.invariant-loop-subscriber
-invariant-loop-subscriber l = All IsKnown (take l.subscriber-index l.subscribers)

@@ -1,9 +1,0 @@
-use Rattle.std.proofs.Common.{rules}
-use Rattle.slice_schedule.specs.World.{fresh_flow}
-use Rattle.schedule_run.proofs.Grown.{grows_none, reached}
-use Rattle.schedule_run.proofs.grow.reach_flow.Goals as goal
-
-pub returns-then-slice-len : goal.returns-then-slice-len
-returns-then-slice-len c =
-    reached fresh_flow c.args.flows.now.items c.args.flows.now.items c.args.slice (search rules)
-    (grows_none fresh_flow c.args.flows.now.items c.args.slice)

@@ -1,6 +1,0 @@
-use Rattle.schedule_run.specs.Worlds.{world_of}
-use Rattle.schedule_run.proofs.Passes.{Found}
-use Rattle.schedule_run.proofs.passing.next_of.Given as goal
-
-abbrev pub invariant-loop-lane : goal.invariant-loop-lane
-invariant-loop-lane l = Found l.pass l.setup.rooms (world_of l.numbers) l.waits l.from l.next l.lane

@@ -1,7 +1,0 @@
-use Rattle.std.proofs.Common.{rules}
-use Rattle.schedule_run.proofs.Listing.{fresh_listed}
-use Rattle.schedule_run.proofs.planning.schedule.Goals as goal
-
-pub lines-requires-clause-listed : goal.lines-requires-clause-listed
-lines-requires-clause-listed c =
-    fresh_listed _ _ _ (search rules) (search rules) (search rules) (c.new-waiting.ensures _)

@@ -1,6 +1,0 @@
-use Rattle.schedule_run.proofs.Indices.{indexed_same}
-use Rattle.schedule_run.proofs.roster.Roster.has.Goals as goal
-
-pub has_half-requires : goal.has_half-requires
-has_half-requires c known =
-    indexed_same _ _ _ _ c.as_slice.ensures.value c.as_slice-2.ensures.value (c.self.invariant.indexed known)

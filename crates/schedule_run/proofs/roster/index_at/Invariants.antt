@@ -1,6 +1,0 @@
-use Rattle.std.proofs.Common.{◌≡◌, ◌+◌}
-use Rattle.schedule_run.specs.Rosters.{place_at}
-use Rattle.schedule_run.proofs.roster.index_at.Given as goal
-
-abbrev pub invariant-loop-index : goal.invariant-loop-index
-invariant-loop-index l = place_at l.halves l.index + l.left ≡ l.place

@@ -1,5 +1,0 @@
-use Rattle.std.proofs.Common.{rules}
-use Rattle.schedule_run.proofs.roster.index_of.Goals as goal
-
-pub by_slot-requires : goal.by_slot-requires
-by_slot-requires c = c.requires (search rules)

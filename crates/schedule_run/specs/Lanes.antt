@@ -1,8 +1,0 @@
--- The next order of a data worker.
-use Rattle.std.specs.Prelude.{◌≡◌, ℕ, Option, Some, None, List, ◌∷◌, drop}
-use Rattle.slice_schedule.specs.World.{FlowNow, FlowOrder, item}
-
--- it is taken from what the worker keeps, or else from its lane
-abbrev pub Takes : (kept : Option ℕ) → (orders : List FlowOrder) → (old new : FlowNow) → FlowOrder → Type 0
-Takes (Some slot) orders old new order = (order ≡ item slot) × (new ≡ record old { kept = None })
-Takes None orders old new order = (orders ≡ order ∷ drop 1 orders) × (new ≡ record old { orders = drop 1 orders })

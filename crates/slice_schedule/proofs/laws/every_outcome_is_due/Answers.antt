@@ -1,5 +1,0 @@
-use Rattle.slice_schedule.proofs.Due.{each_outcome_is_due}
-use Rattle.slice_schedule.proofs.laws.every_outcome_is_due.Goals as goal
-
-pub returns : goal.returns
-returns c = each_outcome_is_due

@@ -1,0 +1,13 @@
+//! A slot's commands and packets of an epoch, done by its subscriber in the order that the packets'
+//! counts of commands tell. What they lead to is what the one-thread gateway makes of them. Which
+//! packet meets how many commands is left to others.
+#![tactic(auto)]
+
+mod executing;
+mod lending;
+mod placed;
+mod replayed;
+
+pub use executing::replay;
+pub use placed::Placed;
+pub use replayed::{Caused, Closed, NumberedReply, NumberedVerdict, Replayed};

@@ -1,0 +1,14 @@
+pub mod Answering
+pub mod Gateway
+pub mod Reports
+pub mod Left
+pub mod GatewayLaws
+pub mod Law
+pub mod Resumes
+pub mod Places
+pub mod Report
+pub mod Entries
+pub mod Gathering
+pub mod Standing
+pub mod Holding
+pub mod Progress

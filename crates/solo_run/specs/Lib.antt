@@ -1,7 +1,0 @@
-pub mod Places
-pub mod Report
-pub mod Entries
-pub mod Gathering
-pub mod Standing
-pub mod Holding
-pub mod Progress

@@ -1,5 +1,0 @@
-use Rattle.state_run.proofs.SavedLemmas.{one_said}
-use Rattle.state_run.proofs.laws.lines_say_one_state.Goals as goal
-
-pub returns : goal.returns
-returns c = one_said c.one_file_of_a_state.ensures

@@ -1,4 +1,0 @@
-pub mod Text
-pub mod Front
-pub mod Reading
-pub mod Laws
