@@ -30,7 +30,7 @@ mod sure;
 mod writing;
 
 pub use input_stop::InputStop;
-pub use line_buffer::{INPUT_MAX, LINE_MAX, LineBuf, NEWLINE};
+pub use line_buffer::{INPUT_MAX, LINE_MAX, LineBuf, NEWLINE, line_len};
 pub use memory::{MemSink, MemSource};
 pub use reading::{LineRead, one_answer, read_line};
 pub use refilling::read_behind;

@@ -25,7 +25,7 @@ pub const LINE_MAX: usize = 132_000;
 /// How many octets are read in all.
 pub const INPUT_MAX: u64 = 0x100_0000_0000;
 
-/// How many octets the buffer holds: an unfinished line, and a large piece behind it.
+/// How many octets a buffer holds, if nothing else is asked: an unfinished line, and a large piece behind it.
 const BUFFER_LEN: usize = 0x4_0000;
 
 /// The octets read ahead, and the line that was read last.
@@ -47,8 +47,7 @@ pub struct LineBuf {
 }
 
 impl Model for LineBuf {
-    ghost use Rattle.std.specs.Prelude.{◌≡◌, ◌+◌, ◌-◌, ◌≤◌, vec_len, slice_range};
-    ghost use Rattle.pc_outside.specs.declared.line_buffer.TheConstants.{BUFFER_LEN};
+    ghost use Rattle.std.specs.Prelude.{◌+◌, ◌-◌, slice_range};
     ghost use Rattle.pc_outside.specs.Limits.{input_max};
     ghost use Rattle.pc_outside.specs.Held.{Held};
 
@@ -67,7 +66,7 @@ impl Model for LineBuf {
 }
 
 impl LineBuf {
-    ghost use Rattle.std.specs.Prelude.{◌≡◌, ◌+◌, ◌≤◌, [], false, length, take, IfOk, IfSome, IfNone, OnOk, OnErr};
+    ghost use Rattle.std.specs.Prelude.{◌≡◌, ◌+◌, ◌<◌, ◌≤◌, [], false, length, take, drop, IfOk, IfSome, IfNone, OnOk, OnErr};
     ghost use Rattle.std.specs.Io.KnownBytes.{IsAtEnd, Keeps};
     ghost use Rattle.pc_outside.specs.Faults.{Rises};
     ghost use Rattle.pc_outside.specs.Limits.{line_max, input_max};
@@ -79,7 +78,15 @@ impl LineBuf {
     pub fn new(alloc: Global) -> Result<LineBuf, NoMemory>
         ensures { IfOk result (λ buf. buf ≡ record { line = []; last = false; front = []; room = input_max }) }
     {
-        let octets = vec![in alloc; 0u8; BUFFER_LEN]?;
+        LineBuf::of_len(alloc, BUFFER_LEN)
+    }
+
+    /// The same of a buffer that holds so many octets, more than the longest line.
+    pub fn of_len(alloc: Global, len: usize) -> Result<LineBuf, NoMemory>
+        requires { line_max < len }
+        ensures { IfOk result (λ buf. buf ≡ record { line = []; last = false; front = []; room = input_max }) }
+    {
+        let octets = vec![in alloc; 0u8; len]?;
         Ok(LineBuf {
             octets,
             from: 0,
@@ -111,6 +118,23 @@ impl LineBuf {
         ensures { result + self.now.room ≡ input_max + length self.now.front }
     {
         self.taken
+    }
+
+    /// The octets read and not yet given.
+    pub fn front(&self) -> &[u8]
+        ensures { result.now ≡ self.now.front }
+    {
+        &self.octets[self.from..self.to]
+    }
+
+    /// Gives up the first line held, whose text has this length.
+    pub fn give(&mut self, len: usize)
+        requires { len < length self.old.front }
+        ensures front { self.new.front ≡ drop (len + 1) self.old.front }
+        ensures room { self.old.room ≡ len + 1 + self.new.room }
+    {
+        let newline = self.from + len;
+        self.from = newline + 1;
     }
 
     pub(super) fn front_len(&self) -> usize
@@ -172,7 +196,7 @@ impl LineBuf {
         self.from = 0;
         self.to = to - from;
         let room = (INPUT_MAX - self.taken) as usize;
-        let most = room.min(BUFFER_LEN - self.to);
+        let most = room.min(self.octets.len() - self.to);
         let count = read_behind(source, &mut self.octets, from, to, most)?;
         self.to += count;
         self.taken += count as u64;
@@ -196,9 +220,9 @@ impl LineBuf {
     }
 }
 
-// Where the first newline stands, if within a line's length. The first `seen` octets are none.
+/// Where the first newline stands, if within a line's length. The first `seen` octets are none.
 #[inline(always)]
-fn line_len(front: &[u8], seen: usize) -> Option<usize>
+pub fn line_len(front: &[u8], seen: usize) -> Option<usize>
     requires seen_held { seen ≤ length front.now }
     requires seen_short { seen ≤ line_max }
     requires seen_none { NoNewline (take seen front.now) }

@@ -1,4 +1,3 @@
-pub mod Buffer
 pub mod Apart
 pub mod Epoch
 pub mod Standing

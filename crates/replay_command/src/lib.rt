@@ -4,7 +4,6 @@
 //! of their rooms; what is written, and how the run ends, is as with lines and texts of one thread.
 #![tactic(auto)]
 
-mod buffer;
 mod epochs;
 mod line_blocks;
 mod reader;

@@ -3,10 +3,9 @@ ghost use Rattle.std.specs.Prelude.{◌≡◌, ◌+◌, ◌<◌, ◌≤◌, ◌+
 ghost use Rattle.std.specs.Thread.{IsSync};
 ghost use Rattle.replay_command.specs.Apart.{IsFirst, IsPart};
 
-use crate::buffer::line_len;
 use memchr::memrchr;
 use pc_base::Moment;
-use pc_outside::NEWLINE;
+use pc_outside::{NEWLINE, line_len};
 use std::alloc::{AllocError, Global};
 use std::thread::{Threads, join};
 use trace_lines::{LineBad, TraceLine, read_line};

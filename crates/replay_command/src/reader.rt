@@ -7,10 +7,9 @@ ghost use Rattle.trace_lines.specs.Meaning.{not_before};
 ghost use Rattle.trace_run.specs.Next.{Gives, Tells, TakesRoom, said_in};
 ghost use Rattle.replay_command.specs.Apart.{AreFirst, IsFirst, numbered};
 
-use crate::buffer::BlockBuf;
 use crate::line_blocks::{Apart, PART_LEN, read_parts};
 use pc_base::Moment;
-use pc_outside::Source;
+use pc_outside::{LineBuf, Source};
 use std::alloc::{AllocError, Global};
 use std::marker::Model;
 use std::thread::Threads;
@@ -18,13 +17,16 @@ use std::vec::IntoIter;
 use trace_lines::{LineBad, TraceLine};
 use trace_run::{LineReader, Next, given, next_line, refused};
 
+/// How many octets are read ahead: some twenty thousand lines, and an unfinished one.
+const BUFFER_LEN: usize = 0x40_0000;
+
 /// Gives the lines of a source: where octets of many lines were read, these are read in threads, and then given in
 /// their order. Contracts see it as the octets that it holds.
 #[derive(Drop)]
 pub struct BlockReader<'r, R> {
     rt: &'r R,
     alloc: Global,
-    buf: BlockBuf,
+    buf: LineBuf,
 
     // Those of the first lines held.
     lines: IntoIter<Apart, Global>,
@@ -52,7 +54,7 @@ impl<'r, R> BlockReader<'r, R> {
         Ok(BlockReader {
             rt,
             alloc,
-            buf: BlockBuf::new(alloc)?,
+            buf: LineBuf::of_len(alloc, BUFFER_LEN)?,
             lines: none_read(alloc),
         })
     }
@@ -116,7 +118,7 @@ fn none_read(alloc: Global) -> IntoIter<Apart, Global>
 }
 
 // Gives the first line held, of which this was read.
-fn give(buf: &mut BlockBuf, one: Apart, place: &mut TraceLine, number: u64, least: Moment) -> Next
+fn give(buf: &mut LineBuf, one: Apart, place: &mut TraceLine, number: u64, least: Moment) -> Next
     requires { (behind : List ℕ) × IsFirst one buf.old.front behind }
 
     ensures tells { (left : Option (List ℕ)) → Tells (said_in result place.new) number least buf.old.room buf.new.room

@@ -20,7 +20,7 @@ pub use entries::{
     push_note, push_noted, push_packet, push_placed, push_records, push_refusal,
 };
 pub use opens::push_opens;
-pub use reading::{LineBuffer, LineReader, Next, given, next_line, refused};
+pub use reading::{LineReader, Next, given, next_line, refused};
 pub use reporting::{Epochs, Reporter, run_report, run_report_behind, run_report_by};
 pub use status::{Status, fault_text};
 pub use taking::{LineTaker, run_lines, run_lines_behind, run_lines_by};

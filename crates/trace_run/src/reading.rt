@@ -1,9 +1,8 @@
 //! The next line of a trace.
-ghost use Rattle.std.specs.Prelude.{◌≡◌, ◌≤◌, ◌++◌, ℕ, List};
+ghost use Rattle.std.specs.Prelude.{◌≡◌, ◌≤◌};
 ghost use Rattle.std.specs.Io.KnownBytes.{prepend_known};
 ghost use Rattle.pc_outside.specs.Faults.{Rises};
 ghost use Rattle.pc_outside.specs.Held.{Held, IsUnfinished};
-ghost use Rattle.pc_outside.specs.LineReads.{Answers, Reads};
 ghost use Rattle.trace_lines.specs.Line.{Line};
 ghost use Rattle.trace_run.specs.Next.{Gives, Tells, TakesRoom, given_as, refused_as, said_in};
 
@@ -24,54 +23,6 @@ pub enum Next {
     TooLong,
     ReadFault,
     NoMemory,
-}
-
-/// Octets of a source that are held, and the line that was read of them last, as `LineBuf` has them.
-pub trait LineBuffer {
-    ghost holds: { Self → Held };
-
-    /// Reads the next line, and takes no memory.
-    fn read_next<S: Source>(&mut self, source: &mut S) -> LineRead
-        // The octets that the source tells, behind those held, give the answer.
-        ensures octets { Reads result (holds self.old).room (holds self.new).room
-            (prepend_known (holds self.old).front (S.left source.old))
-            (prepend_known (holds self.new).front (S.left source.new)) (holds self.new).line (holds self.new).last }
-
-        // Whatever it tells, those held and some that it gave do.
-        ensures held { (given : List ℕ) × Answers result (holds self.old).room (holds self.new).room
-            ((holds self.old).front ++ given) (holds self.new).front (holds self.new).line (holds self.new).last }
-
-        // A fault is the source's, and comes only where more octets are needed.
-        ensures later { S.faults source.old ≤ S.faults source.new }
-        ensures fault { result ≡ LineRead.ReadFault → Rises (S.faults source.old) (S.faults source.new) }
-        ensures unfinished { result ≡ LineRead.ReadFault → IsUnfinished (holds self.new) };
-
-    /// The line that was read last, without its newline.
-    fn last_read(&self) -> &[u8]
-        ensures { result.now ≡ (holds self.now).line };
-
-    /// Whether the input ended with it.
-    fn ends(&self) -> bool
-        ensures { result ≡ (holds self.now).last };
-}
-
-impl LineBuffer for LineBuf {
-    ghost holds = { λ buf. buf };
-
-    #[inline(always)]
-    fn read_next<S: Source>(&mut self, source: &mut S) -> LineRead {
-        read_line(source, self)
-    }
-
-    #[inline(always)]
-    fn last_read(&self) -> &[u8] {
-        self.line()
-    }
-
-    #[inline(always)]
-    fn ends(&self) -> bool {
-        self.is_last()
-    }
 }
 
 /// What gives the lines of a source, one behind another. It may hold octets that it read and hasn't given.
@@ -123,34 +74,34 @@ impl LineReader for LineBuf {
 
 /// Reads the line of this number, which may have no moment below the least, in place of the one before.
 #[inline(always)]
-pub fn next_line<S: Source, B: LineBuffer>(
+pub fn next_line<S: Source>(
     line: &mut TraceLine,
     source: &mut S,
-    buf: &mut B,
+    buf: &mut LineBuf,
     number: u64,
     least: Moment,
 ) -> Next
-    ensures tells { Tells (said_in result line.new) number least (B.holds buf.old).room (B.holds buf.new).room
-        (prepend_known (B.holds buf.old).front (S.left source.old))
-        (prepend_known (B.holds buf.new).front (S.left source.new)) }
-    ensures room { TakesRoom (said_in result line.new) (B.holds buf.old).room (B.holds buf.new).room }
+    ensures tells { Tells (said_in result line.new) number least buf.old.room buf.new.room
+        (prepend_known buf.old.front (S.left source.old))
+        (prepend_known buf.new.front (S.left source.new)) }
+    ensures room { TakesRoom (said_in result line.new) buf.old.room buf.new.room }
     ensures given { Gives (said_in result line.new) number least }
 
     // A fault is the source's, and comes only where more octets of a line are needed.
     ensures later { S.faults source.old ≤ S.faults source.new }
     ensures fault { result ≡ Next.ReadFault → Rises (S.faults source.old) (S.faults source.new) }
-    ensures unfinished { result ≡ Next.ReadFault → IsUnfinished (B.holds buf.new) }
+    ensures unfinished { result ≡ Next.ReadFault → IsUnfinished buf.new }
 {
-    match buf.read_next(source) {
+    match read_line(source, buf) {
         LineRead::Line => {}
         LineRead::End => return Next::End,
         LineRead::LineLong => return Next::LineLong,
         LineRead::TooLong => return Next::TooLong,
         LineRead::ReadFault => return Next::ReadFault,
     }
-    let text = buf.last_read();
+    let text = buf.line();
     match read_line_in(line, text, number, least) {
-        Ok(()) => given(text.len(), buf.ends()),
+        Ok(()) => given(text.len(), buf.is_last()),
         Err(why) => refused(why),
     }
 }

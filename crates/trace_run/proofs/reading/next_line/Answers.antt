@@ -19,36 +19,36 @@ returns-in-ReadFault-clause-tells g c = tells_fault c.args.number c.args.least _
 pub returns-in-Ok-clause-tells : goal.returns-in-Ok-clause-tells
 returns-in-Ok-clause-tells g c =
     let line = c.read_line_in.new.line in
-    rw (c.given.ensures line, c.ends.ensures)
-    (tells_given c.args.number c.args.least _ _ _ _ c.last_read-text.result.now _ line _
-    (rw (sym c.last_read-text.ensures) at c.in-Line.ensures.octets)
+    rw (c.given.ensures line, c.is_last.ensures)
+    (tells_given c.args.number c.args.least _ _ _ _ c.line-text.result.now _ line _
+    (rw (sym c.line-text.ensures) at c.in-Line.ensures.octets)
     c.in-Ok.ensures.line)
 
 pub returns-in-Ok-clause-room : goal.returns-in-Ok-clause-room
 returns-in-Ok-clause-room g c =
     let line = c.read_line_in.new.line in
-    rw (c.given.ensures line, c.ends.ensures) (takes_given _ _ _ _ _ _ line _ c.in-Line.ensures.held.1
-    (c.in-Ok.ensures.as_long ∙ ap length c.last_read-text.ensures))
+    rw (c.given.ensures line, c.is_last.ensures) (takes_given _ _ _ _ _ _ line _ c.in-Line.ensures.held.1
+    (c.in-Ok.ensures.as_long ∙ ap length c.line-text.ensures))
 
 pub returns-in-Ok-clause-given : goal.returns-in-Ok-clause-given
 returns-in-Ok-clause-given g c =
     let line = c.read_line_in.new.line in
-    rw (c.given.ensures line) (gives_given line _ c.args.number c.args.least c.ends.result (record {
-      numbered = (meaning_given c.args.least c.args.number c.last_read-text.result.now line c.in-Ok.ensures.line).1;
+    rw (c.given.ensures line) (gives_given line _ c.args.number c.args.least c.is_last.result (record {
+      numbered = (meaning_given c.args.least c.args.number c.line-text.result.now line c.in-Ok.ensures.line).1;
       long = sym c.in-Ok.ensures.as_long;
-      short = omega (arith, c.in-Line.ensures.held.1.short, ap length c.last_read-text.ensures);
+      short = omega (arith, c.in-Line.ensures.held.1.short, ap length c.line-text.ensures);
       late = c.in-Ok.ensures.in_order;
     }))
 
 pub returns-in-Ok-clause-fault : goal.returns-in-Ok-clause-fault
 returns-in-Ok-clause-fault g c =
     let line = c.read_line_in.new.line in
-    λ is. absurd (given-no_fault c.ends.result line _ (sym (c.given.ensures line) ∙ ap (λ one. said_in one line) is))
+    λ is. absurd (given-no_fault c.is_last.result line _ (sym (c.given.ensures line) ∙ ap (λ one. said_in one line) is))
 
 pub returns-in-Ok-clause-unfinished : goal.returns-in-Ok-clause-unfinished
 returns-in-Ok-clause-unfinished g c =
     let line = c.read_line_in.new.line in
-    λ is. absurd (given-no_fault c.ends.result line _ (sym (c.given.ensures line) ∙ ap (λ one. said_in one line) is))
+    λ is. absurd (given-no_fault c.is_last.result line _ (sym (c.given.ensures line) ∙ ap (λ one. said_in one line) is))
 
 pub returns-in-Err-clause-given : goal.returns-in-Err-clause-given
 returns-in-Err-clause-given g c =
@@ -57,8 +57,8 @@ returns-in-Err-clause-given g c =
 pub returns-in-Err-clause-tells : goal.returns-in-Err-clause-tells
 returns-in-Err-clause-tells g c =
     rw (c.refused.ensures c.read_line_in.new.line)
-    (tells_refused c.args.number c.args.least _ _ _ _ c.last_read-text.result.now _ c.in-Err.why
-    (rw (sym c.last_read-text.ensures) at c.in-Line.ensures.octets) c.in-Err.ensures.refusal)
+    (tells_refused c.args.number c.args.least _ _ _ _ c.line-text.result.now _ c.in-Err.why
+    (rw (sym c.line-text.ensures) at c.in-Line.ensures.octets) c.in-Err.ensures.refusal)
 
 pub returns-in-Err-clause-fault : goal.returns-in-Err-clause-fault
 returns-in-Err-clause-fault g c =

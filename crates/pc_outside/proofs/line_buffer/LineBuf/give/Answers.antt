@@ -1,6 +1,6 @@
 use Rattle.std.proofs.Common.{◌≡◌, ◌+◌, slice_range, ap, sym, ◌∙◌, drop, arith}
 use Rattle.pc_outside.proofs.Parts.{part-behind}
-use Rattle.replay_command.proofs.buffer.BlockBuf.give.Goals as goal
+use Rattle.pc_outside.proofs.line_buffer.LineBuf.give.Goals as goal
 
 pub returns-clause-front : goal.returns-clause-front
 returns-clause-front c =
