@@ -9,16 +9,14 @@ use audit_core::{Audited, Setup, audit};
 use front_core::{Ended, FrontEntry};
 use pc_base::{Place, SliceNo};
 use pc_outside::{SureSink, SureSource};
+use replay_command::push_entries;
 use slice_core::run_epoch;
 use std::alloc::{AllocError, Global};
 use std::sync::Wait;
 use std::thread::Threads;
 use text_fields::Text;
 use trace_lines::TraceLine;
-use trace_run::{
-    push_answer, push_effects, push_judged_placed, push_note, push_opens, push_records,
-    push_refusal,
-};
+use trace_run::{push_effects, push_opens, push_records};
 
 // A slice's lane has one place, and a slot's queues four, so that a worker has to get on before the front can.
 const SLICES: u8 = 2;
@@ -60,39 +58,12 @@ fn handled_at(entries: &[FrontEntry], slice: SliceNo) -> bool {
     false
 }
 
-// The line of an entry, with its place.
-fn push_line(report: &mut Text, entry: &FrontEntry) -> Result<(), AllocError> {
-    match entry {
-        FrontEntry::Note { line, text } => push_note(report, *line, text.as_slice()),
-        FrontEntry::Answer {
-            line,
-            slot,
-            number,
-            reply,
-        } => push_answer(report, *line, *slot, *number, reply),
-        FrontEntry::Judgement {
-            line,
-            slot,
-            number,
-            commands,
-            verdict,
-            place,
-            parked,
-        } => push_judged_placed(
-            report, *line, *slot, *number, *commands, verdict, *place, *parked,
-        ),
-        FrontEntry::Refusal { line, slot, packet } => push_refusal(report, *line, *slot, *packet),
-    }
-}
-
 // Whether an audit finds that the report of an epoch is a lawful one of these lines.
 fn is_lawful(alloc: Global, lines: &[TraceLine], ended: Ended) -> Result<bool, TraceStop>
     requires { length lines.now ≤ 1000000 }
 {
     let mut report = Text::new(alloc);
-    for entry in &ended.epoch.lines {
-        push_line(&mut report, entry)?;
-    }
+    push_entries(&mut report, ended.epoch.lines.as_slice(), true)?;
     push_effects(&mut report, ended.epoch.effects.as_slice())?;
     push_records(&mut report, ended.epoch.rows.as_slice())?;
     push_opens(&mut report, ended.rest.subscribers.as_slice())?;
