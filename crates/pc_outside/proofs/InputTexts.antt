@@ -1,23 +1,13 @@
 -- The lines of an input, joined to a reader that gives one line after another: each lemma is of octets alone.
-use Rattle.std.proofs.Common.{◌≡◌, ◌≢◌, ℕ, suc, ◌+◌, ◌-◌, ◌<◌, ◌≤◌, Bool, true, false, ◌==◌, List, [], ◌∷◌, ◌++◌, length, get_or, refl, sym, ap, ◌∙◌, arith, take, All, nat_lt, nat_le, length-append}
+use Rattle.std.proofs.Common.{◌≡◌, ℕ, ◌+◌, ◌-◌, ◌<◌, ◌≤◌, Bool, true, false, List, [], ◌∷◌, ◌++◌, length, refl, sym, ap, ◌∙◌, arith, take, nat_lt, nat_le, length-append}
 use Rattle.std.proofs.lemmas.Bool.Decides.{nat_tests}
 use Rattle.std.proofs.lemmas.List.{take_all}
-use Rattle.std.proofs.lemmas.List.Elements.{All-head, All-tail}
-use Rattle.std.proofs.lemmas.List.Splits.{slice_split_at, slice_split_none, slice_split-cons_no, length-slice_split}
-use Rattle.std.proofs.Math.Seq.{take-append-add, take-append_seam}
-use Rattle.std.specs.List.{slice_split, onto_first}
+use Rattle.std.proofs.lemmas.List.Splits.{length-slice_split}
+use Rattle.std.specs.List.{slice_split}
 use Rattle.pc_outside.specs.Limits.{newline, line_max}
 use Rattle.pc_outside.specs.Line.{NoNewline}
 use Rattle.pc_outside.specs.Texts.{Texts, Text, long, big, ended, stopped, after_lines, rest_texts, pieces_texts, texts_within}
-
-abbrev ends_line : ℕ → Bool
-ends_line octet = octet == newline
-
-differs : (octet : ℕ) → octet ≢ newline → ends_line octet ≡ false
-differs octet other = grind (arith, nat_tests)
-
-all_differ : (octets : List ℕ) → NoNewline octets → All (λ octet. ends_line octet ≡ false) octets
-all_differ octets no_newline k d inside = differs (get_or octets k d) (no_newline k d inside)
+use Rattle.pc_outside.proofs.Pieces.{cut_pieces, ends_line, first_piece, last_pieces, taken_behind, whole_full, whole_pieces}
 
 -- one whole line in front of further pieces
 line_first : (full : Bool) (line : Text) (pieces : List Text) → length line ≤ line_max → 0 < length pieces
@@ -34,28 +24,14 @@ long_first full line [] too_long =
 long_first full line (next ∷ pieces) too_long =
     let passes : nat_lt line_max (length line) ≡ true = grind (arith, nat_tests) in rw passes
 
--- the octets up to a newline and behind it, as far as there is room
-taken_line : (room : ℕ) (line rest : List ℕ) → take (length line + 1 + room) (line ++ newline ∷ rest) ≡ line
-    ++ newline ∷ take room rest
-taken_line room line rest =
-    let regrouped : length line + 1 + room ≡ length line + suc room = omega arith in
-    ap (λ n. take n (line ++ newline ∷ rest)) regrouped ∙ take-append-add line (newline ∷ rest) (suc room)
-
 -- the octets begin with a line and its newline
 pub whole_line : (room : ℕ) (line rest : List ℕ) → NoNewline line → length line ≤ line_max
     → texts_within (length line + 1 + room) (line ++ newline ∷ rest) ≡ after_lines (line ∷ []) (texts_within room rest)
 unfolding texts_within
 whole_line room line rest no_newline short =
     let octets = line ++ newline ∷ rest in
-    let long_octets : length octets ≡ length line + suc (length rest) = length-append line (newline ∷ rest) in
-    let full : nat_le (length line + 1 + room) (length octets) ≡ nat_le room (length rest) = grind (arith, nat_tests) in
-    let pieces : slice_split ends_line (take (length line + 1 + room) octets) ≡ line
-    ∷ slice_split ends_line (take room rest) =
-    ap (slice_split ends_line) (taken_line room line rest)
-    ∙ slice_split_at ends_line line newline (take room rest) (all_differ line no_newline) refl
-    in
-    ap (λ b. pieces_texts b (slice_split ends_line (take (length line + 1 + room) octets))) full
-    ∙ ap (pieces_texts (nat_le room (length rest))) pieces
+    ap (λ b. pieces_texts b (slice_split ends_line (take (length line + 1 + room) octets))) (whole_full room line rest)
+    ∙ ap (pieces_texts (nat_le room (length rest))) (whole_pieces room line rest no_newline)
     ∙ line_first (nat_le room (length rest)) line (slice_split ends_line (take room rest)) short
     (omega (arith, length-slice_split ends_line (take room rest)))
 
@@ -80,25 +56,10 @@ pub last_line : (room : ℕ) (line : List ℕ) → NoNewline line → length lin
 unfolding texts_within
 last_line room line no_newline short some more =
     let not_full : nat_le (length line + room) (length line) ≡ false = grind (arith, nat_tests) in
-    let pieces : slice_split ends_line (take (length line + room) line) ≡ line ∷ [] =
-    ap (slice_split ends_line) (take_all (length line + room) line (omega arith))
-    ∙ slice_split_none ends_line line (all_differ line no_newline)
-    in
     ap (λ b. pieces_texts b (slice_split ends_line (take (length line + room) line))) not_full
-    ∙ ap (pieces_texts false) pieces
+    ∙ ap (pieces_texts false) (last_pieces room line no_newline)
     ∙ last_piece line short some
     ∙ ap (after_lines (line ∷ [])) (sym (at_end room more))
-
--- the first piece begins with the octets before any newline
-first_piece : (front octets piece : List ℕ) (pieces : List (List ℕ)) → NoNewline front
-    → slice_split ends_line octets ≡ piece ∷ pieces
-    → slice_split ends_line (front ++ octets) ≡ (front ++ piece) ∷ pieces
-first_piece [] octets piece pieces no_newline first = first
-first_piece (octet ∷ front) octets piece pieces no_newline first =
-    slice_split-cons_no ends_line octet (front ++ octets)
-    (differs octet (All-head (λ o. o ≢ newline) octet front no_newline))
-    ∙ ap (onto_first octet) (first_piece front octets piece pieces
-    (All-tail (λ o. o ≢ newline) octet front no_newline) first)
 
 -- more octets than a line may have, in the first of some pieces
 long_pieces : (full : Bool) (front octets : List ℕ) (pieces : List (List ℕ)) → NoNewline front → line_max < length front
@@ -115,12 +76,8 @@ pub line_long : (room : ℕ) (front rest : List ℕ) → NoNewline front → lin
 unfolding texts_within
 line_long room front rest no_newline too_long within =
     let beyond = room - length front in
-    let regrouped : room ≡ length front + beyond = omega arith in
-    let taken : take room (front ++ rest) ≡ front ++ take beyond rest =
-    ap (λ n. take n (front ++ rest)) regrouped ∙ take-append-add front rest beyond
-    in
     let full = nat_le room (length (front ++ rest)) in
-    ap (λ octets. pieces_texts full (slice_split ends_line octets)) taken
+    ap (λ octets. pieces_texts full (slice_split ends_line octets)) (taken_behind room front rest within)
     ∙ long_pieces full front (take beyond rest)
     (slice_split ends_line (take beyond rest)) no_newline too_long refl
     (omega (arith, length-slice_split ends_line (take beyond rest)))
@@ -134,12 +91,8 @@ input_big front rest no_newline short =
     let longer = length-append front rest in grind (arith, nat_tests)
     in
     let fits : nat_lt line_max (length front) ≡ false = grind (arith, nat_tests) in
-    let pieces : slice_split ends_line (take (length front) (front ++ rest)) ≡ front ∷ [] =
-    ap (slice_split ends_line) (take-append_seam front rest)
-    ∙ slice_split_none ends_line front (all_differ front no_newline)
-    in
     ap (λ b. pieces_texts b (slice_split ends_line (take (length front) (front ++ rest)))) full
-    ∙ ap (pieces_texts true) pieces
+    ∙ ap (pieces_texts true) (cut_pieces front rest no_newline)
     ∙ rw fits
 
 -- an unfinished line is a last one, where it isn't empty

@@ -7,5 +7,6 @@ pub mod ReadSteps
 pub mod OneAnswerCases
 pub mod ToldLemmas
 mod Rests
+pub mod Pieces
 pub mod InputTexts
 pub mod InputLemmas

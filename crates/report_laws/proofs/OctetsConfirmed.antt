@@ -1,5 +1,5 @@
 -- The same of the octets of a trace and of the text of its report.
-use Rattle.std.proofs.Common.{◌≡◌, ◌≢◌, ℕ, ◌+◌, ◌<◌, ◌≤◌, ◌^◌, ◌==◌, Bool, true, false, nat_lt, nat_le, if◌then◌else◌, List, [], ◌∷◌, ◌++◌, map, length, length-append, take, All, refl, sym, ap, ◌∙◌, subst, arith, append_assoc, append-nil, Result, Ok, Err, Option, None, bytes_eq}
+use Rattle.std.proofs.Common.{◌≡◌, ◌≢◌, ℕ, ◌+◌, ◌<◌, ◌≤◌, ◌^◌, Bool, true, false, nat_lt, nat_le, if◌then◌else◌, List, [], ◌∷◌, ◌++◌, map, length, length-append, take, All, refl, sym, ap, ◌∙◌, subst, arith, append_assoc, append-nil, Result, Ok, Err, Option, None, bytes_eq}
 use Rattle.std.specs.List.{flat_map, join_with_byte, slice_split}
 use Rattle.std.proofs.lemmas.Bool.{leb-false}
 use Rattle.std.proofs.lemmas.List.{length-take, take_all}
@@ -21,7 +21,7 @@ use Rattle.trace_lines.specs.Input.{Input, after_lines, big, ended, input_of, in
 use Rattle.trace_lines.specs.Line.{Line}
 use Rattle.trace_lines.specs.Meaning.{line_meaning}
 use Rattle.trace_lines.specs.declared.bad.LineBad.{LineBad}
-use Rattle.trace_lines.proofs.InputLemmas.{all_differ}
+use Rattle.pc_outside.proofs.Pieces.{all_differ, ends_line}
 use Rattle.lawful_run.specs.Report.{Report, entries_of, report_text, texts_of as texts_told}
 use Rattle.lawful_run.specs.Setup.{Setup, slices_of}
 use Rattle.lawful_run.specs.Trace.{IsReport, epochs_told}
@@ -38,9 +38,6 @@ use Rattle.report_laws.specs.Shown.{report_shown}
 use Rattle.report_laws.proofs.Confirmed.{own_confirmed, texts_shown}
 use Rattle.report_laws.proofs.EntriesIn.{entries_in}
 use Rattle.report_laws.proofs.OneThread.{entries_shown}
-
-abbrev ends_line : ℕ → Bool
-ends_line octet = octet == newline
 
 -- lines, each with its newline
 abbrev octets_of : List Text → List ℕ
