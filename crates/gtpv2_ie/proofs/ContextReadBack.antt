@@ -157,50 +157,51 @@ fteids_again c =
 pub context_again : (c : Context) → context_with (context_elements c) ≡ c
 context_again c = rw (ebi_again c, cause_again c, tft_again c, fteids_again c, qos_again c) refl
 
--- ---- the elements that a Context is written as are written well
+-- ---- the elements that a Context is written as are written well, however a Context among them is read
 
-abbrev IsInner : Element → Type 0
-IsInner ie = IsWritten empty_context no_context ie
+module _ (reads : List ℕ → Option Context) where
+  abbrev IsInner : Element → Type 0
+  IsInner ie = IsWritten empty_context reads ie
 
-plain_written : (instance : ℕ) (value : IeValue) → instance < 16 → IsPlain value → IsValue value
-    → IsInner (record { instance = instance; value = value })
-plain_written instance value low plain is = record {
-  instance = low;
-  len = plain_len empty_context value plain is;
-  again = plain_again no_context empty_context value plain is;
-}
+  plain_written : (instance : ℕ) (value : IeValue) → instance < 16 → IsPlain value → IsValue value
+      → IsInner (record { instance = instance; value = value })
+  plain_written instance value low plain is = record {
+    instance = low;
+    len = plain_len empty_context value plain is;
+    again = plain_again reads empty_context value plain is;
+  }
 
-optional_written : {X : Type 0} (value : X → IeValue) (IsPart : X → Type 0) (o : Option X)
-    → ((x : X) → IsPart x → IsInner (record { instance = 0; value = value x }))
-    → IfSome o IsPart → AllByRecursion IsInner (if_some value o)
-optional_written value IsPart None each is = tt
-optional_written value IsPart (Some x) each is = (each x is, tt)
+  optional_written : {X : Type 0} (value : X → IeValue) (IsPart : X → Type 0) (o : Option X)
+      → ((x : X) → IsPart x → IsInner (record { instance = 0; value = value x }))
+      → IfSome o IsPart → AllByRecursion IsInner (if_some value o)
+  optional_written value IsPart None each is = tt
+  optional_written value IsPart (Some x) each is = (each x is, tt)
 
-fteids_written : (fteids : List (ℕ × Fteid)) → AllByRecursion (λ fteid. (fteid.0 < 16) × IsFteid fteid.1) fteids
-    → AllByRecursion IsInner (map fteid_element fteids)
-fteids_written [] are = tt
-fteids_written (f ∷ fteids) are = (plain_written f.0 (values.Fteid f.1) are.0.0 tt are.0.1, fteids_written fteids are.1)
+  fteids_written : (fteids : List (ℕ × Fteid)) → AllByRecursion (λ fteid. (fteid.0 < 16) × IsFteid fteid.1) fteids
+      → AllByRecursion IsInner (map fteid_element fteids)
+  fteids_written [] are = tt
+  fteids_written (f ∷ fteids) are = (plain_written f.0 (values.Fteid f.1) are.0.0 tt are.0.1, fteids_written fteids are.1)
 
-context_written : (c : Context) → IsContext c → AllByRecursion IsInner (context_elements c)
-context_written c is =
-    let ebi = optional_written values.Ebi IsEbi c.ebi (λ x p. plain_written 0 (values.Ebi x) (lit< tt) tt p) is.ebi in
-    let cause = optional_written values.Cause IsCause c.cause
-    (λ x p. plain_written 0 (values.Cause x) (lit< tt) tt p) is.cause in
-    let tft = optional_written values.Tft (IsOctets 1000) c.tft
-    (λ x p. plain_written 0 (values.Tft x) (lit< tt) tt p) is.tft in
-    let fteids = fteids_written c.fteids is.fteids in
-    let qos = optional_written values.Qos IsQos c.qos (λ x p. plain_written 0 (values.Qos x) (lit< tt) tt p) is.qos in
-    both _ _ (both _ _ (both _ _ (both _ _ ebi cause) tft) fteids) qos
-  where
-    both : (xs ys : List Element) → AllByRecursion IsInner xs → AllByRecursion IsInner ys
-        → AllByRecursion IsInner (xs ++ ys)
-    both xs ys = AllByRecursion-append IsInner xs ys
+  pub context_written : (c : Context) → IsContext c → AllByRecursion (IsWritten empty_context reads) (context_elements c)
+  context_written c is =
+      let ebi = optional_written values.Ebi IsEbi c.ebi (λ x p. plain_written 0 (values.Ebi x) (lit< tt) tt p) is.ebi in
+      let cause = optional_written values.Cause IsCause c.cause
+      (λ x p. plain_written 0 (values.Cause x) (lit< tt) tt p) is.cause in
+      let tft = optional_written values.Tft (IsOctets 1000) c.tft
+      (λ x p. plain_written 0 (values.Tft x) (lit< tt) tt p) is.tft in
+      let fteids = fteids_written c.fteids is.fteids in
+      let qos = optional_written values.Qos IsQos c.qos (λ x p. plain_written 0 (values.Qos x) (lit< tt) tt p) is.qos in
+      both _ _ (both _ _ (both _ _ (both _ _ ebi cause) tft) fteids) qos
+    where
+      both : (xs ys : List Element) → AllByRecursion IsInner xs → AllByRecursion IsInner ys
+          → AllByRecursion IsInner (xs ++ ys)
+      both xs ys = AllByRecursion-append IsInner xs ys
 
 -- the octets of a Context spell it
 pub context_of-octets : (c : Context) → IsContext c → context_of (context_octets c) ≡ Some c
 context_of-octets c is =
     let ies : List Element = context_elements c in
-    let written = context_written c is in
+    let written = context_written no_context c is in
     let stand = written_stand empty_context no_context ies written in
     let read = written_read empty_context no_context ies written in
     ap (context_in (context_octets c)) (ies_of-Stand (context_octets c) (places_by empty_context 0 ies) stand)

@@ -57,7 +57,7 @@ header_is front more value kind instance low fits =
     (ap (λ (i : ℕ). i % 16) at_instance ∙ mod-eq_of_lt low) len_is
 
 -- the value of an element that was written
-value_is : (front more value : List ℕ) (kind instance : ℕ)
+pub value_is : (front more value : List ℕ) (kind instance : ℕ)
     → slice_range (front ++ (ie_octets kind instance value ++ more)) (length front + 4)
     (length front + 4 + length value) ≡ value
 value_is front more value kind instance =

@@ -1,11 +1,9 @@
 -- A written message reads back.
-use Rattle.std.proofs.Common.{◌≡◌, ℕ, ◌+◌, ◌-◌, ◌<◌, Bool, true, false, eqb, cond, ◌&&◌, List, [], ◌∷◌, ◌++◌, length, take, drop, map, Option, Some, None, refl, sym, ap, subst, ◌∙◌, append_assoc, arith, length-append, lit<}
-use Rattle.std.specs.Prelude.{IfSome, slice_range}
+use Rattle.std.proofs.Common.{◌≡◌, ℕ, ◌+◌, ◌-◌, Bool, true, false, eqb, cond, ◌&&◌, List, [], ◌∷◌, ◌++◌, length, take, map, Option, Some, None, refl, sym, ap, subst, ◌∙◌, append_assoc, arith, length-append}
 use Rattle.std.specs.List.{cons_option, AllByRecursion}
 use Rattle.std.specs.Option.{option_map}
-use Rattle.std.proofs.Math.Seq.{take-append_seam, drop-append-add}
+use Rattle.std.proofs.Math.Seq.{take-append_seam}
 use Rattle.gtpv2_ie.specs.declared.context.Context.{Context}
-use Rattle.gtpv2_ie.specs.declared.fteid.Fteid.{Fteid}
 use Rattle.gtpv2_ie.specs.declared.raw.RawIe.{RawIe}
 use Rattle.gtpv2_ie.specs.declared.value.IeValue.{IeValue}
 use Rattle.gtpv2_ie.specs.declared.value.IeValue.TheVariants as values
@@ -14,13 +12,12 @@ use Rattle.gtpv2_ie.specs.Kind.{type_octet}
 use Rattle.wire_octets.proofs.NumberLemmas.{be16-again, be24-again, be32-again}
 use Rattle.wire_octets.specs.Numbers.{be16_at, be16_octets}
 use Rattle.gtpv2_ie.specs.ReadBack.{end_of, places_by, places, AreReadAs, ReadBack}
-use Rattle.gtpv2_ie.specs.Spelling.{kind_of, ie_octets, plain_octets, empty_context, if_some, fteid_element, context_elements, context_octets, spelling, spellings}
-use Rattle.gtpv2_ie.specs.Validity.{IsEbi, IsCause, IsFteid, IsQos, IsOctets, IsContext, IsElement, IsValue}
+use Rattle.gtpv2_ie.specs.Spelling.{kind_of, plain_octets, empty_context, context_elements, context_octets, spelling, spellings}
+use Rattle.gtpv2_ie.specs.Validity.{IsContext, IsElement, IsValue}
 use Rattle.gtpv2_ie.specs.Value.{context_of}
 use Rattle.gtpv2_ie.proofs.StandLemmas.{ies_of-Stand}
-use Rattle.gtpv2_ie.proofs.ValueLemmas.{IsPlain, plain_again, plain_len}
-use Rattle.gtpv2_ie.proofs.ReadBackLemmas.{IsWritten, written_stand, written_read}
-use Rattle.gtpv2_ie.proofs.ContextReadBack.{read_back}
+use Rattle.gtpv2_ie.proofs.ReadBackLemmas.{value_is, written_stand, written_read}
+use Rattle.gtpv2_ie.proofs.ContextReadBack.{context_written, read_back}
 use Rattle.gtpv2_msg.specs.declared.element.ReadIe.{ReadIe}
 use Rattle.gtpv2_msg.specs.Elements.{read_ies, elements_in, elements_of, contexts_in, known_of}
 use Rattle.gtpv2_msg.specs.Message.{Message}
@@ -64,51 +61,11 @@ known_again (ie ∷ ies) = ap (λ (rest : List Element). ie ∷ rest) (known_aga
 
 -- ---- the elements of a Context
 
-abbrev IsInner : Element → Type 0
-IsInner ie = IsWritten empty_context context_of ie
-
-plain_written : (instance : ℕ) (value : IeValue) → instance < 16 → IsPlain value → IsValue value
-    → IsInner (record { instance = instance; value = value })
-plain_written instance value low plain is =
-    record {
-      instance =
-          low;
-      len = plain_len empty_context value plain is;
-      again = plain_again context_of empty_context value plain is;
-    }
-
-optional_written : {X : Type 0} (value : X → IeValue) (IsPart : X → Type 0) (o : Option X)
-    → ((x : X) → IsPart x → IsInner (record { instance = 0; value = value x }))
-    → IfSome o IsPart → AllByRecursion IsInner (if_some value o)
-optional_written value IsPart None each is = tt
-optional_written value IsPart (Some x) each is = (each x is, tt)
-
-fteids_written : (fteids : List (ℕ × Fteid)) → AllByRecursion (λ fteid. (fteid.0 < 16) × IsFteid fteid.1) fteids
-    → AllByRecursion IsInner (map fteid_element fteids)
-fteids_written [] are = tt
-fteids_written (f ∷ fteids) are = (plain_written f.0 (values.Fteid f.1) are.0.0 tt are.0.1, fteids_written fteids are.1)
-
-both : (xs ys : List Element) → AllByRecursion IsInner xs → AllByRecursion IsInner ys
-    → AllByRecursion IsInner (xs ++ ys)
-both [] ys all_xs all_ys = all_ys
-both (x ∷ xs) ys all_xs all_ys = (all_xs.0, both xs ys all_xs.1 all_ys)
-
-inner_written : (c : Context) → IsContext c → AllByRecursion IsInner (context_elements c)
-inner_written c is =
-    let ebi = optional_written values.Ebi IsEbi c.ebi (λ x p. plain_written 0 (values.Ebi x) (lit< tt) tt p) is.ebi in
-    let cause = optional_written values.Cause IsCause c.cause
-    (λ x p. plain_written 0 (values.Cause x) (lit< tt) tt p) is.cause in
-    let tft = optional_written values.Tft (IsOctets 1000) c.tft
-    (λ x p. plain_written 0 (values.Tft x) (lit< tt) tt p) is.tft in
-    let fteids = fteids_written c.fteids is.fteids in
-    let qos = optional_written values.Qos IsQos c.qos (λ x p. plain_written 0 (values.Qos x) (lit< tt) tt p) is.qos in
-    both _ _ (both _ _ (both _ _ (both _ _ ebi cause) tft) fteids) qos
-
 -- the elements in a written Context are those that it is written as
 elements_again : (c : Context) → IsContext c → elements_of (context_octets c) ≡ Some (map as_read (context_elements c))
 elements_again c is =
     let ies : List Element = context_elements c in
-    let written = inner_written c is in
+    let written = context_written context_of c is in
     ap (elements_in (context_octets c))
     (ies_of-Stand (context_octets c) (places_by empty_context 0 ies)
     (written_stand empty_context context_of ies written))
@@ -116,16 +73,6 @@ elements_again c is =
     (written_read empty_context context_of ies written))
 
 -- ---- the Contexts of a message
-
-value_is : (front more value : List ℕ) (kind instance : ℕ)
-    → slice_range (front ++ (ie_octets kind instance value ++ more)) (length front + 4)
-    (length front + 4 + length value) ≡ value
-value_is front more value kind instance =
-    let text : List ℕ = ie_octets kind instance value ++ more in
-    let len : length front + 4 + length value - (length front + 4) ≡ length value = omega arith in
-    ap (λ n. take n (drop (length front + 4) (front ++ text))) len
-    ∙ ap (take (length value)) (drop-append-add front text 4)
-    ∙ take-append_seam value more
 
 -- a Context that was written, as the table sees it
 abbrev own_context : Element → Option (Option (List ReadIe))
