@@ -105,7 +105,7 @@ asked_qos_fits bearers qci mbr_up mbr_down gbr_up gbr_down each are = record {
 }
 
 -- the index of a new bearer
-few_indices : AllByRecursion (λ index. index ≤ 10) (range_with_len 0 11)
+pub few_indices : AllByRecursion (λ index. index ≤ 10) (range_with_len 0 11)
 few_indices = (
   omega arith,
   (

@@ -96,12 +96,12 @@ AskedIn (note text) = IsNote text
 AskedIn (admission digits asks full) = IsCommandInRange asks × IsNote full
 AskedIn (of whom wish missing) = WishIn wish × IsNote missing
 
-bind_some : {X Y : Type 0} (P : X → Type 0) (Q : Y → Type 0) (first : Option X) (next : X → Option Y)
+pub bind_some : {X Y : Type 0} (P : X → Type 0) (Q : Y → Type 0) (first : Option X) (next : X → Option Y)
     → ((x : X) → P x → IfSome (next x) Q) → IfSome first P → IfSome (first >>= next) Q
 bind_some P Q None next each is = tt
 bind_some P Q (Some x) next each is = each x is
 
-any_then : {X Y : Type 0} (Q : Y → Type 0) (first : Option X) (next : X → Option Y) → ((x : X) → IfSome (next x) Q)
+pub any_then : {X Y : Type 0} (Q : Y → Type 0) (first : Option X) (next : X → Option Y) → ((x : X) → IfSome (next x) Q)
     → IfSome (first >>= next) Q
 any_then Q None next each = tt
 any_then Q (Some x) next each = each x

@@ -1,6 +1,6 @@
 -- A session has at most eleven bearers: their indices rise, and are at most ten.
 use Rattle.std.proofs.Common.{◌≡◌, ◌≢◌, ℕ, ◌+◌, ◌<◌, ◌≤◌, ◌==◌, Bool, true, false, not, ◌||◌, if◌then◌else◌, nat_lt, List, [], ◌∷◌, map, length, Option, Some, None, refl, sym, subst, arith}
-use Rattle.std.specs.List.{AllByRecursion, range_with_len, cons_option}
+use Rattle.std.specs.List.{range_with_len, cons_option}
 use Rattle.std.proofs.lemmas.Bool.{false≢true}
 use Rattle.std.proofs.lemmas.Bool.Decides.{nat_tests}
 use Rattle.pc_base.specs.declared.packet.Peer.{Peer}
@@ -17,6 +17,7 @@ use Rattle.bearer_state.specs.Session.{SessionState}
 use Rattle.bearer_state.specs.Version.{active_in, actives}
 use Rattle.control_steps.specs.declared.command.CommandKind.{CommandKind}
 use Rattle.control_steps.specs.declared.command.CommandKind.TheVariants.{Attach, Create, Modify, Release, Delete, AddBearer, Filters, Drop, Ambr, CreateAns, UpdateAns, DeleteAns}
+use Rattle.control_steps.proofs.WrittenTable.{few_indices}
 use Rattle.control_steps.specs.Row.{Row, repeated, pdn_refused, class_refused, created, attached, no_session, no_bearer, modified, released, deleted, not_asked, asked, not_refiltered, refiltered, not_dropped, dropped, not_rerated, rerated, unasked, granted, denied, noted, filters_given, filters_made, row_of}
 use Rattle.control_steps.specs.Table.{qos_asked, with_bearer, with_filters, with_enb, effect, controlled}
 use Rattle.gate_model.proofs.Members.{at_each, of_find}
@@ -111,30 +112,6 @@ risen_placed low new (b ∷ bs) least most free rise =
     rise.2)
 
 -- the least index that is free
-few_indices : AllByRecursion (λ index. index ≤ 10) (range_with_len 0 11)
-few_indices = (
-  omega arith,
-  (
-    omega arith,
-    (
-      omega arith,
-      (
-        omega arith,
-        (
-          omega arith,
-          (
-            omega arith,
-            (
-              omega arith,
-              (omega arith, (omega arith, (omega arith, (omega arith, tt)))),
-            ),
-          ),
-        ),
-      ),
-    ),
-  ),
-)
-
 record IsFree (bearers : List Bearer) (index : ℕ) : Type 0 where
   most : index ≤ 10
   free : has_index bearers index ≡ false

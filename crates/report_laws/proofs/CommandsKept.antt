@@ -32,7 +32,7 @@ use Rattle.ipv4_packet.specs.Fields.{destination_of}
 use Rattle.ipv4_packet.specs.declared.fault.IpBad.{IpBad}
 use Rattle.pc_base.specs.declared.packet.Peer.{Peer}
 use Rattle.pc_base.specs.declared.packet.Way.TheVariants.{Down}
-use Rattle.tft_codec.specs.Reading.{tft_at, ◌>>=◌}
+use Rattle.tft_codec.specs.Reading.{tft_at}
 use Rattle.tft_codec.specs.Refusal.{first_fault as template_fault}
 use Rattle.tft_codec.specs.declared.fault.TBad.{TBad}
 use Rattle.tft_codec.specs.declared.tft.Tft.{Tft}
@@ -54,6 +54,7 @@ use Rattle.demux.specs.declared.decision.Decision.TheVariants.{Command, Move, No
 use Rattle.demux.specs.declared.decision.Whose.{Whose}
 use Rattle.demux.specs.declared.packet.LentPacket.{LentPacket}
 use Rattle.demux.proofs.ElementRanges.{find_some, map_some, test_some, then_some}
+use Rattle.demux.proofs.RangeLemmas.{any_then, bind_some}
 use Rattle.demux.proofs.Small.{Small, index_small, small_octets}
 use Rattle.report_laws.proofs.KeptRanges.{CommandKept}
 use Rattle.report_laws.proofs.ElementsKept.{ContextKept, EbiKept, ElementKept, ValueKept, message_kept}
@@ -68,16 +69,6 @@ abbrev AskedKept : Asked → Type 0
 AskedKept (note text) = Unit {0}
 AskedKept (admission digits asks full) = CommandKept asks
 AskedKept (of whom wish missing) = WishKept wish
-
-bind_some : {X Y : Type 0} (P : X → Type 0) (Q : Y → Type 0) (first : Option X) (next : X → Option Y)
-    → ((x : X) → P x → IfSome (next x) Q) → IfSome first P → IfSome (first >>= next) Q
-bind_some P Q None next each is = tt
-bind_some P Q (Some x) next each is = each x is
-
-any_then : {X Y : Type 0} (Q : Y → Type 0) (first : Option X) (next : X → Option Y) → ((x : X) → IfSome (next x) Q)
-    → IfSome (first >>= next) Q
-any_then Q None next each = tt
-any_then Q (Some x) next each = each x
 
 -- what a message of the MME asks
 assigned_kept : (ebi : Option ℕ) → IfSome ebi EbiKept → IfSome (assigned ebi) IsEbi

@@ -48,6 +48,7 @@ use Rattle.solo_command.specs.Reports.{is_of}
 use Rattle.solo_command.specs.Report.{slices}
 use Rattle.solo_command.proofs.GatherLemmas.{no_rows}
 use Rattle.solo_command.proofs.StoryLemmas.{later}
+use Rattle.solo_command.proofs.TellLemmas.{filter_all}
 use Rattle.report_laws.proofs.KeptRanges.{CommandKept}
 use Rattle.report_laws.proofs.SessionsKept.{SessionKept}
 use Rattle.report_laws.proofs.CommandsKept.{DecisionKept, decision_kept}
@@ -62,17 +63,6 @@ pub record TellsOf (told : Told) (n : ℕ) (histories : Histories) (now : Meanin
       ≡ made_of.effects slot (histories slot) (brings slot (histories slot) now)
   pub rows : (slot : ℕ) → filter (is_of slot) told.rows
       ≡ made_of.rows slot (histories slot) (brings slot (histories slot) now)
-
-filter_all : {X Y : Type 0} (f : X → Y) (test : Y → Bool) (b : Bool) → ((x : X) → test (f x) ≡ b) → (xs : List X)
-    → filter test (map f xs) ≡ (if b then map f xs else [])
-filter_all f test true every [] = refl
-filter_all f test false every [] = refl
-filter_all f test true every (x ∷ xs) =
-    ap (λ t. if t then f x ∷ filter test (map f xs) else filter test (map f xs)) (every x)
-    ∙ ap (λ rest. f x ∷ rest) (filter_all f test true every xs)
-filter_all f test false every (x ∷ xs) =
-    ap (λ t. if t then f x ∷ filter test (map f xs) else filter test (map f xs)) (every x)
-    ∙ filter_all f test false every xs
 
 -- what one slot's event makes, by slot
 by_own : {X : Type 0} (own slot : ℕ) (has : ℕ → List Event → List X) (e : ℕ → Event) (told : List X)

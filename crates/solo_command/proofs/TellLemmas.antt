@@ -38,7 +38,7 @@ use Rattle.solo_command.proofs.HoldLemmas.{admitted_holds, at_slot, has_room}
 use Rattle.solo_command.proofs.StoryLemmas.{later}
 
 -- entries that are all of one slot
-filter_all : {X Y : Type 0} (f : X → Y) (test : Y → Bool) (b : Bool) → ((x : X) → test (f x) ≡ b) → (xs : List X)
+pub filter_all : {X Y : Type 0} (f : X → Y) (test : Y → Bool) (b : Bool) → ((x : X) → test (f x) ≡ b) → (xs : List X)
     → filter test (map f xs) ≡ (if b then map f xs else [])
 filter_all f test true every [] = refl
 filter_all f test false every [] = refl
