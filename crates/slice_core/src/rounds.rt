@@ -128,7 +128,7 @@ fn turn_called<H: Traveller, R: Wait>(
             turn_next(rt, worker, unfinished, Some(slot))?;
             Ok(Did::Worked)
         }
-        Attended::Told(_) | Attended::Went(_) => Ok(Did::Worked),
+        Attended::Left => Ok(Did::Worked),
         Attended::Nothing => {
             let next = unfinished.pop_front();
             let called = turn_next(rt, worker, unfinished, calls.next(rt))?;

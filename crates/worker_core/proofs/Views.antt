@@ -1,10 +1,10 @@
 -- What a worker has, part by part.
-use Rattle.std.proofs.Common.{◌≡◌, ℕ, ◌-◌, ◌≤◌, ◌⊎◌, inl, inr, true, false, true≢false, List, map, refl, sym, ap, ◌∙◌}
+use Rattle.std.proofs.Common.{◌≡◌, ℕ, ◌-◌, ◌≤◌, ◌⊎◌, inl, inr, Bool, true, false, true≢false, List, map, refl, sym, ap, ◌∙◌}
 use Rattle.std.proofs.Common.{Option, Some, None, subst, arith}
-use Rattle.std.specs.Prelude.{nat_lt, if◌then◌else◌, IsSome}
+use Rattle.std.specs.Prelude.{nat_lt, if◌then◌else◌, IsSome, MatchBool}
 use Rattle.std.proofs.lemmas.Bool.{ltb-true}
 use Rattle.worker_core.specs.declared.attended.Attended.{Attended}
-use Rattle.worker_core.specs.declared.attended.Attended.TheVariants.{Nothing, Came, Told, Went}
+use Rattle.worker_core.specs.declared.attended.Attended.TheVariants.{Nothing, Came, Left}
 use Rattle.worker_core.specs.declared.order.Order.{Order}
 use Rattle.worker_core.specs.declared.worker.Leaving.{Leaving}
 use Rattle.lane_core.specs.Ends.{raised}
@@ -48,13 +48,24 @@ module _ {H : Type 0} where
         → TookOrder slot_at old new ⊎ WentHome slot_at done (without_order old) new
     attended_some Nothing old new some attends = absurd (some refl)
     attended_some (Came slot) old new some attends = inl attends.0
-    attended_some (Told slot) old new some attends = inl attends.0
-    attended_some (Went slot) old new some attends = inr attends.0
+    attended_some Left old new some (inl told) = inl told.0
+    attended_some Left old new some (inr went) = inr went
 
     -- where nothing was, none went home
     pub attended_none : (attended : Attended) (old new : View H) → attended ≡ Nothing
         → Attends slot_at done attended old new → NoneWent slot_at done (without_order old) new
     attended_none attended old new is attends = subst (λ (a : Attended). Attends slot_at done a old new) is attends
+
+    -- whether a half went home
+    pub home_gone : (gone : Bool) (old new : View H) → gone ≡ true
+        → MatchBool gone (WentHome slot_at done old new) (NoneWent slot_at done old new) → WentHome slot_at done old new
+    home_gone true old new is went = went
+    home_gone false old new is went = absurd (true≢false (sym is))
+
+    pub none_gone : (gone : Bool) (old new : View H) → gone ≡ false
+        → MatchBool gone (WentHome slot_at done old new) (NoneWent slot_at done old new) → NoneWent slot_at done old new
+    none_gone true old new is went = absurd (true≢false is)
+    none_gone false old new is went = went
 
   -- behind which halves are turned
   pub same_then : {N : Type 0} (name : H → N) (slot_at done : H → ℕ) (old mid new : View H)

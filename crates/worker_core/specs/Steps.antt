@@ -6,7 +6,7 @@ use Rattle.std.specs.List.{position, remove, filter}
 use Rattle.lane_core.specs.Ends.{raised}
 use Rattle.lane_core.specs.declared.did.Did.{Did}
 use Rattle.worker_core.specs.declared.attended.Attended.{Attended}
-use Rattle.worker_core.specs.declared.attended.Attended.TheVariants.{Nothing, Came, Told, Went}
+use Rattle.worker_core.specs.declared.attended.Attended.TheVariants.{Nothing, Came, Left}
 use Rattle.worker_core.specs.declared.order.Order.{Order}
 use Rattle.worker_core.specs.declared.order.Order.TheVariants.{Arrive, Leave}
 use Rattle.worker_core.specs.declared.worker.Leaving.{Leaving}
@@ -92,10 +92,9 @@ abbrev pub Attends : {H : Type 0} → (H → ℕ) → (H → ℕ) → Attended �
 Attends slot_at done Nothing old new = NoneWent slot_at done (without_order old) new
 Attends {H} slot_at done (Came slot) old new =
     (took : TookOrder slot_at old new) × (half : H) × (took.order ≡ Arrive half) × (slot_at half ≡ slot)
-Attends slot_at done (Told slot) old new =
-    (took : TookOrder slot_at old new) × (until : ℕ) × (took.order ≡ Leave slot until)
-Attends slot_at done (Went slot) old new =
-    (went : WentHome slot_at done (without_order old) new) × (slot_at went.half ≡ slot)
+Attends slot_at done Left old new =
+    ((took : TookOrder slot_at old new) × (slot : ℕ) × (until : ℕ) × (took.order ≡ Leave slot until))
+    ⊎ WentHome slot_at done (without_order old) new
 
 -- from the cursor round halves were turned until one worked, as they tell, and the cursor stands behind that one
 pub record Turned {H N : Type 0} (name : H → N) (turns works : H → ℕ) (turned_at : H → ℕ

@@ -8,8 +8,6 @@ pub enum Attended {
     Nothing,
     /// The half of this slot came.
     Came(Slot),
-    /// The half of this slot is to leave, if it is held.
-    Told(Slot),
-    /// The half of this slot went home.
-    Went(Slot),
+    /// A half is to leave, if it is held; or one went home.
+    Left,
 }

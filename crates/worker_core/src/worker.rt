@@ -1,6 +1,6 @@
 //! A worker: the halves that it holds, and the ends of its two lanes.
 ghost use Rattle.std.specs.Prelude.{◌≡◌, ◌≤◌, ◌<◌, ◌+◌, ◌⊎◌, [], All, length, vec_len};
-ghost use Rattle.std.specs.Prelude.{vec_capacity, true, false, IsSome, IfOk, OnErr, MatchOption};
+ghost use Rattle.std.specs.Prelude.{vec_capacity, true, false, IsSome, IfOk, OnErr, MatchBool, MatchOption};
 ghost use Rattle.lane_core.specs.Ends.{sent, taken, full_answers, empty_answers, raised};
 ghost use Rattle.worker_core.specs.Names.{Kept};
 ghost use Rattle.worker_core.specs.Leaves.{IsTold, is_held};
@@ -131,7 +131,7 @@ impl<H: Traveller> Worker<H> {
             ⊎ GoesHome H.name H.slot_of H.done_of (taken (orders_of self.new)) (sent (home_of self.old))
             (sent (home_of self.new)) }
 
-        // What it answers is what was done, and of which slot. A half goes home, or nothing is done, only where no
+        // What it answers is what was done, and which half came. A half goes home, or nothing is done, only where no
         // order was there; nothing only where none was due, or the one that was met a full lane home.
         ensures attended { IfOk result (λ attended. Attends (λ half. H.slot_of (H.name half)) H.done_of attended
             (view_of self.old) (view_of self.new)) }
@@ -144,10 +144,10 @@ impl<H: Traveller> Worker<H> {
         if let Some(took) = self.take_order(rt) {
             return Ok(took);
         }
-        let Some(slot) = self.send_home(rt) else {
+        if !self.send_home(rt) {
             return Ok(Attended::Nothing);
-        };
-        Ok(Attended::Went(slot))
+        }
+        Ok(Attended::Left)
     }
 
     /// Turns the half of a slot once, with at most 8 items, and no other one; it answers as the half does.
@@ -196,26 +196,25 @@ impl<H: Traveller> Worker<H> {
             }
             Order::Leave { slot, until } => {
                 mark(&self.seen, &self.held, &mut self.leaving, slot, until);
-                Some(Attended::Told(slot))
+                Some(Attended::Left)
             }
         }
     }
 
-    // Sends home the first half that is due, if one is: its slot.
-    fn send_home<R: Wait>(&mut self, rt: &R) -> Option<Slot>
+    // Sends home the first half that is due, if one is; whether one went.
+    fn send_home<R: Wait>(&mut self, rt: &R) -> bool
         ensures lanes { worker_lanes self.new ≡ worker_lanes self.old }
         ensures place { place_of self.new ≡ place_of self.old }
         ensures orders { orders_of self.new ≡ orders_of self.old }
         ensures home { (sent (home_of self.new) ≡ sent (home_of self.old))
             ⊎ GoesHome H.name H.slot_of H.done_of (taken (orders_of self.old)) (sent (home_of self.old))
             (sent (home_of self.new)) }
-        ensures went { MatchOption result
-            (NoneWent (λ half. H.slot_of (H.name half)) H.done_of (view_of self.old) (view_of self.new))
-            (λ slot. (went : WentHome (λ half. H.slot_of (H.name half)) H.done_of (view_of self.old)
-            (view_of self.new)) × (H.slot_of (H.name went.half) ≡ slot)) }
+        ensures went { MatchBool result
+            (WentHome (λ half. H.slot_of (H.name half)) H.done_of (view_of self.old) (view_of self.new))
+            (NoneWent (λ half. H.slot_of (H.name half)) H.done_of (view_of self.old) (view_of self.new)) }
     {
         let Some(at) = find_due(&self.seen, self.known, &self.held, &self.leaving) else {
-            return None;
+            return false;
         };
         let half = self.held.remove(at);
         let slot = half.slot();
@@ -224,11 +223,11 @@ impl<H: Traveller> Worker<H> {
                 forget(&mut self.leaving, slot);
                 self.cursor = cursor_left(self.cursor, at, self.held.len());
                 moved_up(&mut self.seen, &self.held, at);
-                Some(slot)
+                true
             }
             Err(Full(half)) => {
                 put_back(&mut self.held, at, half);
-                None
+                false
             }
         }
     }

@@ -79,29 +79,27 @@ returns-in-Ok-clause-went g c =
     let found = due_here g.H.Traveller.name g.H.Traveller.slot_of g.H.Traveller.done_of _ _ _ _ c.in-Some.at
     c.deref.ensures.value c.deref-2.ensures.value c.in-Some.ensures in
     let here = due_within g.H.Traveller.name g.H.Traveller.slot_of g.H.Traveller.done_of _ _ _ c.remove-half.result
-    found in (
-      record {
-        at = c.in-Some.at;
-        half = c.remove-half.result;
-        first = found;
-        there = slice_get_read _ _ _ _ refl here c.remove-half.ensures.value;
-        took = search rules;
-        gone = c.in-Ok.ensures.ok.0;
-        held = c.remove-half.ensures.items;
-        noted = subst (λ (l : List Leaving). SameElsewhere
-            (g.H.Traveller.slot_of (g.H.Traveller.name c.remove-half.result)) c.args.self.now.leaving.items l)
-            (sym c.forget.ensures.kept)
-            (subst (λ (slot : ℕ). SameElsewhere slot c.args.self.now.leaving.items
-            (filter (λ (x : Leaving). not (nat_eq x.slot c.slot-slot.result)) c.args.self.now.leaving.items))
-            c.slot-slot.ensures
-            (forgotten c.slot-slot.result c.args.self.now.leaving.items));
-        forgotten = c.forget.ensures.kept ∙ ap (λ (slot : ℕ). filter (λ (x : Leaving). not (nat_eq x.slot slot))
-            c.args.self.now.leaving.items) c.slot-slot.ensures;
-        cursor = search rules;
-        counts = (c.in-Ok.ensures.ok.1, refl);
-      },
-      sym c.slot-slot.ensures,
-    )
+    found in
+    record {
+      at = c.in-Some.at;
+      half = c.remove-half.result;
+      first = found;
+      there = slice_get_read _ _ _ _ refl here c.remove-half.ensures.value;
+      took = search rules;
+      gone = c.in-Ok.ensures.ok.0;
+      held = c.remove-half.ensures.items;
+      noted = subst (λ (l : List Leaving). SameElsewhere
+          (g.H.Traveller.slot_of (g.H.Traveller.name c.remove-half.result)) c.args.self.now.leaving.items l)
+          (sym c.forget.ensures.kept)
+          (subst (λ (slot : ℕ). SameElsewhere slot c.args.self.now.leaving.items
+          (filter (λ (x : Leaving). not (nat_eq x.slot c.slot-slot.result)) c.args.self.now.leaving.items))
+          c.slot-slot.ensures
+          (forgotten c.slot-slot.result c.args.self.now.leaving.items));
+      forgotten = c.forget.ensures.kept ∙ ap (λ (slot : ℕ). filter (λ (x : Leaving). not (nat_eq x.slot slot))
+          c.args.self.now.leaving.items) c.slot-slot.ensures;
+      cursor = search rules;
+      counts = (c.in-Ok.ensures.ok.1, refl);
+    }
 
 pub invariant_of-self-in-Err-clause-all_seen : goal.invariant_of-self-in-Err-clause-all_seen
 invariant_of-self-in-Err-clause-all_seen g c = λ known.

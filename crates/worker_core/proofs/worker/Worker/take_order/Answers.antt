@@ -1,4 +1,4 @@
-use Rattle.std.proofs.Common.{rules, true, ◌≡◌, ◌++◌, ◌∷◌, [], List, refl, subst, sym, ap, ◌∙◌}
+use Rattle.std.proofs.Common.{rules, true, ◌≡◌, ◌++◌, ◌∷◌, [], List, inl, refl, subst, sym, ap, ◌∙◌}
 use Rattle.std.specs.List.{All}
 use Rattle.lane_core.specs.Ends.{sent, taken, full_answers}
 use Rattle.worker_core.specs.declared.order.Order.{Order}
@@ -96,7 +96,7 @@ returns-in-Arrive-clause-took g c = (
 )
 
 pub returns-in-Leave-clause-took : goal.returns-in-Leave-clause-took
-returns-in-Leave-clause-took g c = (
+returns-in-Leave-clause-took g c = inl (
   record {
     order = Leave c.in-Leave.slot c.in-Leave.until;
     took = c.in-Some.ensures.next.0
@@ -109,6 +109,7 @@ returns-in-Leave-clause-took g c = (
     cursor = search rules;
     counts = (refl, c.in-Some.ensures.next.1);
   },
+  c.in-Leave.slot,
   c.in-Leave.until,
   refl,
 )
