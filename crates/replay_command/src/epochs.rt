@@ -38,7 +38,7 @@ fn tell<R: Threads + Sync>(
     bad: Option<LineBad>,
     number: u64,
     places: bool,
-    rooms: &mut Vec<Text>,
+    buffers: &mut Vec<Text>,
 ) -> Result<(), AllocError>
     ensures { OnOk result (report.new ≡ report.old ++ (lines_text places (told_by epoch).lines
         ++ lines_text places (noted bad number) ++ closing_text places (told_by epoch))) }
@@ -48,13 +48,13 @@ fn tell<R: Threads + Sync>(
         effects,
         rows,
     } = epoch;
-    push_blocks(rt, alloc, lines, places, rooms, report)?;
+    push_blocks(rt, alloc, lines, places, buffers, report)?;
     push_closing(report, bad, number, effects.as_slice(), rows.as_slice())
 }
 
 /// Runs the lines of the open epoch over the slices, and appends its text, with the note of a bad line of this number
 /// behind the entries of its lines. Then the next epoch is open, and the gateway at rest. Texts of blocks of entries
-/// are made in the rooms.
+/// are made in the buffers.
 pub(crate) fn replay_lines<R: Threads + Wait + Sync>(
     rt: &R,
     rest: &mut AtRest,
@@ -63,7 +63,7 @@ pub(crate) fn replay_lines<R: Threads + Wait + Sync>(
     bad: Option<LineBad>,
     number: u64,
     places: bool,
-    rooms: &mut Vec<Text>,
+    buffers: &mut Vec<Text>,
     report: &mut Text,
 ) -> Result<(), AllocError>
     requires behind { (prior : List Line) × IsBehind rest.old prior }
@@ -87,7 +87,7 @@ pub(crate) fn replay_lines<R: Threads + Wait + Sync>(
         &OpenGate,
     )?;
     *rest = left;
-    tell(rt, alloc, report, epoch, bad, number, places, rooms)?;
+    tell(rt, alloc, report, epoch, bad, number, places, buffers)?;
     lines.clear();
     Ok(())
 }

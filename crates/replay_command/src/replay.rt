@@ -27,7 +27,7 @@ pub(crate) struct Replay {
     pace: Patience,
     places: bool,
     /// What texts of blocks are made in.
-    rooms: Vec<Text>,
+    buffers: Vec<Text>,
 }
 
 impl Replay {
@@ -52,7 +52,7 @@ impl Replay {
             lines: Vec::new(alloc),
             pace,
             places,
-            rooms: Vec::new(alloc),
+            buffers: Vec::new(alloc),
         }
     }
 
@@ -92,7 +92,7 @@ impl Replay {
             bad,
             number,
             self.places,
-            &mut self.rooms,
+            &mut self.buffers,
             text,
         )
     }

@@ -15,14 +15,14 @@ use text_fields::Text;
 const BLOCK_LEN: usize = 16_384;
 
 /// Appends the lines of entries as `push_entries` does, and lets the entries go. Many are told by blocks, in as many
-/// threads as there are blocks, each into a room of its own. Rooms are kept: the next text of as many entries takes
+/// threads as there are blocks, each into a buffer of its own. Buffers are kept: the next text of as many entries takes
 /// hardly any memory.
 pub fn push_blocks<R: Threads + Sync>(
     rt: &R,
     alloc: Global,
     entries: Vec<FrontEntry>,
     places: bool,
-    rooms: &mut Vec<Text>,
+    buffers: &mut Vec<Text>,
     report: &mut Text,
 ) -> Result<(), AllocError>
     ensures { OnOk result (report.new ≡ report.old ++ lines_text places (map entry_told entries.items)) }
@@ -30,8 +30,8 @@ pub fn push_blocks<R: Threads + Sync>(
     if entries.len() <= BLOCK_LEN {
         return push_entries(report, entries.as_slice(), places);
     }
-    let kept = mem::replace(rooms, Vec::new(alloc));
-    let own = rooms_for(alloc, kept, (entries.len() - 1) / BLOCK_LEN + 1)?;
+    let kept = mem::replace(buffers, Vec::new(alloc));
+    let own = buffers_for(alloc, kept, (entries.len() - 1) / BLOCK_LEN + 1)?;
     let told = told_by_blocks(rt, entries.as_slice(), places, own)?;
     let front = mem::replace(report, Text::new(alloc));
     let texts = told.as_slice();
@@ -43,81 +43,81 @@ pub fn push_blocks<R: Threads + Sync>(
         move || drop(entries),
     );
     *report = whole?;
-    *rooms = told;
+    *buffers = told;
     Ok(())
 }
 
-// So many rooms, those that are kept among them.
-fn rooms_for(alloc: Global, kept: Vec<Text>, many: usize) -> Result<Vec<Text>, AllocError>
-    ensures { IfOk result (λ rooms. vec_len rooms ≡ many) }
+// So many buffers, those that are kept among them.
+fn buffers_for(alloc: Global, kept: Vec<Text>, many: usize) -> Result<Vec<Text>, AllocError>
+    ensures { IfOk result (λ buffers. vec_len buffers ≡ many) }
 {
-    let mut rooms = kept;
-    rooms.truncate(many);
-    while rooms.len() < many {
-        rooms.push(Text::new(alloc))?;
+    let mut buffers = kept;
+    buffers.truncate(many);
+    while buffers.len() < many {
+        buffers.push(Text::new(alloc))?;
     }
-    Ok(rooms)
+    Ok(buffers)
 }
 
-// The lines of entries, those of each block by a thread of its own: in each room the text of one block.
+// The lines of entries, those of each block by a thread of its own: in each buffer the text of one block.
 fn told_by_blocks<R: Threads + Sync>(
     rt: &R,
     entries: &[FrontEntry],
     places: bool,
-    rooms: Vec<Text>,
+    buffers: Vec<Text>,
 ) -> Result<Vec<Text>, AllocError>
-    requires { 0 < vec_len rooms }
+    requires { 0 < vec_len buffers }
     ensures { IfOk result (λ told. flat_map (λ text. text) told.items
         ≡ lines_text places (map entry_told entries.now)) }
 {
-    let many = rooms.len();
+    let many = buffers.len();
     if many == 1 {
-        return told_in_one(entries, places, rooms);
+        return told_in_one(entries, places, buffers);
     }
-    let mut first_rooms = rooms;
-    let other_rooms = first_rooms.split_off(many / 2)?;
+    let mut first_buffers = buffers;
+    let other_buffers = first_buffers.split_off(many / 2)?;
     let (front, back) = entries.split_at(front_len(entries.len(), many));
     let (first, second) = join(
         rt,
         move || -> Result<Vec<Text>, AllocError>
             requires sync { IsSync R.row }
-            requires rooms { 0 < vec_len first_rooms }
+            requires buffers { 0 < vec_len first_buffers }
             ensures { IfOk result (λ told. flat_map (λ text. text) told.items
                 ≡ lines_text places (map entry_told front.entry.now)) }
-        { told_by_blocks(rt, front, places, first_rooms) },
+        { told_by_blocks(rt, front, places, first_buffers) },
         move || -> Result<Vec<Text>, AllocError>
             requires sync { IsSync R.row }
-            requires rooms { 0 < vec_len other_rooms }
+            requires buffers { 0 < vec_len other_buffers }
             ensures { IfOk result (λ told. flat_map (λ text. text) told.items
                 ≡ lines_text places (map entry_told back.entry.now)) }
-        { told_by_blocks(rt, back, places, other_rooms) },
+        { told_by_blocks(rt, back, places, other_buffers) },
     );
     both(first?, second?)
 }
 
-// How many of so many entries go into the first half of these rooms.
-fn front_len(entries: usize, rooms: usize) -> usize
-    requires { 0 < rooms }
+// How many of so many entries go into the first half of these buffers.
+fn front_len(entries: usize, buffers: usize) -> usize
+    requires { 0 < buffers }
     ensures { result ≤ entries }
 {
-    (entries / rooms).saturating_mul(rooms / 2).min(entries)
+    (entries / buffers).saturating_mul(buffers / 2).min(entries)
 }
 
-// The lines of entries in the one room.
+// The lines of entries in the one buffer.
 fn told_in_one(
     entries: &[FrontEntry],
     places: bool,
-    rooms: Vec<Text>,
+    buffers: Vec<Text>,
 ) -> Result<Vec<Text>, AllocError>
-    requires { vec_len rooms ≡ 1 }
+    requires { vec_len buffers ≡ 1 }
     ensures { IfOk result (λ told. flat_map (λ text. text) told.items
         ≡ lines_text places (map entry_told entries.now)) }
 {
-    let mut rooms = rooms;
-    let room = &mut rooms[0];
-    room.clear();
-    push_entries(room, entries, places)?;
-    Ok(rooms)
+    let mut buffers = buffers;
+    let buffer = &mut buffers[0];
+    buffer.clear();
+    push_entries(buffer, entries, places)?;
+    Ok(buffers)
 }
 
 // The texts of one list, and behind them those of another.

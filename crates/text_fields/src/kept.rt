@@ -18,7 +18,7 @@ const SPARE: usize = 1_536;
 /// A text that is appended to and emptied; contracts see it as its octets. What is emptied keeps its room.
 #[derive(Debug, Drop)]
 pub struct Text {
-    room: Vec<u8>,
+    buffer: Vec<u8>,
     len: usize,
 }
 
@@ -28,9 +28,9 @@ impl Model for Text {
 
     ghost Value = { List ℕ };
 
-    ghost view = { λ text. take text.len text.room.items };
+    ghost view = { λ text. take text.len text.buffer.items };
 
-    ghost invariant = { λ text. text.len ≤ vec_len text.room };
+    ghost invariant = { λ text. text.len ≤ vec_len text.buffer };
 }
 
 impl Text {
@@ -39,7 +39,7 @@ impl Text {
         ensures { result ≡ [] }
     {
         Text {
-            room: Vec::new(alloc),
+            buffer: Vec::new(alloc),
             len: 0,
         }
     }
@@ -49,14 +49,17 @@ impl Text {
         ensures { result ≡ octets.items }
     {
         let len = octets.len();
-        Text { room: octets, len }
+        Text {
+            buffer: octets,
+            len,
+        }
     }
 
     /// A copy, with just the room that it needs.
     pub fn try_clone(&self) -> Result<Text, AllocError>
         ensures { IfOk result (λ copy. copy ≡ self.now) }
     {
-        let octets = self.as_slice().to_vec(*self.room.allocator())?;
+        let octets = self.as_slice().to_vec(*self.buffer.allocator())?;
         Ok(Text::of(octets))
     }
 
@@ -74,8 +77,8 @@ impl Text {
             return Ok(false);
         }
         let count = digits.len() / 2;
-        hold(&mut self.room, count)?;
-        if !put_decoded(&mut self.room, count, digits) {
+        hold(&mut self.buffer, count)?;
+        if !put_decoded(&mut self.buffer, count, digits) {
             return Ok(false);
         }
         self.len = count;
@@ -87,7 +90,7 @@ impl Text {
     pub fn as_slice(&self) -> &[u8]
         ensures { result.now ≡ self.now }
     {
-        &self.room.as_slice()[..self.len]
+        &self.buffer.as_slice()[..self.len]
     }
 
     /// Empties it.
@@ -101,7 +104,7 @@ impl Text {
     pub fn into_octets(self) -> Vec<u8>
         ensures { result.items ≡ self }
     {
-        let mut octets = self.room;
+        let mut octets = self.buffer;
         octets.truncate(self.len);
         octets
     }
@@ -121,8 +124,8 @@ impl Text {
         ensures appended { OnOk result (self.new ≡ self.old ++ octet ∷ []) }
         ensures kept { OnErr result (self.new ≡ self.old) }
     {
-        make_room(&mut self.room, self.len, 1)?;
-        self.len = put(&mut self.room, self.len, &[octet]);
+        make_room(&mut self.buffer, self.len, 1)?;
+        self.len = put(&mut self.buffer, self.len, &[octet]);
         Ok(())
     }
 
@@ -132,8 +135,8 @@ impl Text {
         ensures appended { OnOk result (self.new ≡ self.old ++ octets.now) }
         ensures kept { OnErr result (self.new ≡ self.old) }
     {
-        make_room(&mut self.room, self.len, octets.len())?;
-        self.len = put(&mut self.room, self.len, octets);
+        make_room(&mut self.buffer, self.len, octets.len())?;
+        self.len = put(&mut self.buffer, self.len, octets);
         Ok(())
     }
 
@@ -143,12 +146,12 @@ impl Text {
         ensures kept { OnErr result (self.new ≡ self.old) }
     {
         make_room(
-            &mut self.room,
+            &mut self.buffer,
             self.len,
             room_for(first.len(), second.len())?,
         )?;
-        let at = put(&mut self.room, self.len, first);
-        self.len = put(&mut self.room, at, second);
+        let at = put(&mut self.buffer, self.len, first);
+        self.len = put(&mut self.buffer, at, second);
         Ok(())
     }
 
@@ -159,12 +162,12 @@ impl Text {
         ensures kept { OnErr result (self.new ≡ self.old) }
     {
         make_room(
-            &mut self.room,
+            &mut self.buffer,
             self.len,
             room_for_digits(head.len(), octets.len())?,
         )?;
-        let at = put(&mut self.room, self.len, head);
-        self.len = put_digits(&mut self.room, at, octets);
+        let at = put(&mut self.buffer, self.len, head);
+        self.len = put_digits(&mut self.buffer, at, octets);
         Ok(())
     }
 
@@ -229,94 +232,94 @@ fn room_for_digits(head: usize, octets: usize) -> Result<usize, AllocError>
 
 // Makes room for so many octets behind the first ones.
 #[inline(always)]
-fn make_room(room: &mut Vec<u8>, len: usize, more: usize) -> Result<(), AllocError>
-    requires { len ≤ vec_len room.old }
-    ensures kept { take len room.new.items ≡ take len room.old.items }
-    ensures within { len ≤ vec_len room.new }
-    ensures room { OnOk result (len + more ≤ vec_len room.new) }
+fn make_room(buffer: &mut Vec<u8>, len: usize, more: usize) -> Result<(), AllocError>
+    requires { len ≤ vec_len buffer.old }
+    ensures kept { take len buffer.new.items ≡ take len buffer.old.items }
+    ensures within { len ≤ vec_len buffer.new }
+    ensures room { OnOk result (len + more ≤ vec_len buffer.new) }
 {
-    if room.len() - len >= more {
+    if buffer.len() - len >= more {
         return Ok(());
     }
-    grow(room, more)
+    grow(buffer, more)
 }
 
-// Makes the room larger by so many octets at least.
+// Makes the buffer longer by so many octets at least.
 #[inline(never)]
-fn grow(room: &mut Vec<u8>, more: usize) -> Result<(), AllocError>
-    ensures kept { take (vec_len room.old) room.new.items ≡ room.old.items }
-    ensures within { vec_len room.old ≤ vec_len room.new }
-    ensures room { OnOk result (vec_len room.old + more ≤ vec_len room.new) }
+fn grow(buffer: &mut Vec<u8>, more: usize) -> Result<(), AllocError>
+    ensures kept { take (vec_len buffer.old) buffer.new.items ≡ buffer.old.items }
+    ensures within { vec_len buffer.old ≤ vec_len buffer.new }
+    ensures room { OnOk result (vec_len buffer.old + more ≤ vec_len buffer.new) }
 {
-    let Some(len) = room.len().checked_add(more) else {
+    let Some(len) = buffer.len().checked_add(more) else {
         return Err(AllocError);
     };
-    room.resize(len.saturating_add(SPARE), 0)
+    buffer.resize(len.saturating_add(SPARE), 0)
 }
 
 // Makes room for so many octets in all, and for no more.
 #[inline(always)]
-fn hold(room: &mut Vec<u8>, len: usize) -> Result<(), AllocError>
-    ensures { OnOk result (len ≤ vec_len room.new) }
+fn hold(buffer: &mut Vec<u8>, len: usize) -> Result<(), AllocError>
+    ensures { OnOk result (len ≤ vec_len buffer.new) }
 {
-    if room.len() >= len {
+    if buffer.len() >= len {
         return Ok(());
     }
-    lengthen(room, len)
+    lengthen(buffer, len)
 }
 
 #[inline(never)]
-fn lengthen(room: &mut Vec<u8>, len: usize) -> Result<(), AllocError>
-    ensures { OnOk result (len ≤ vec_len room.new) }
+fn lengthen(buffer: &mut Vec<u8>, len: usize) -> Result<(), AllocError>
+    ensures { OnOk result (len ≤ vec_len buffer.new) }
 {
-    room.resize(len, 0)
+    buffer.resize(len, 0)
 }
 
 // Writes octets at a place: where they end.
 #[inline(always)]
-fn put(room: &mut Vec<u8>, at: usize, octets: &[u8]) -> usize
-    requires { at + length octets.now ≤ vec_len room.old }
-    ensures value { take result room.new.items ≡ take at room.old.items ++ octets.now }
+fn put(buffer: &mut Vec<u8>, at: usize, octets: &[u8]) -> usize
+    requires { at + length octets.now ≤ vec_len buffer.old }
+    ensures value { take result buffer.new.items ≡ take at buffer.old.items ++ octets.now }
     ensures end { result ≡ at + length octets.now }
-    ensures len { vec_len room.new ≡ vec_len room.old }
+    ensures len { vec_len buffer.new ≡ vec_len buffer.old }
 {
     let end = at + octets.len();
-    room.as_mut_slice()[at..end].copy_from_slice(octets);
+    buffer.as_mut_slice()[at..end].copy_from_slice(octets);
     end
 }
 
 // Writes octets in hexadecimal at a place: where they end.
 #[inline(always)]
-fn put_digits(room: &mut Vec<u8>, at: usize, octets: &[u8]) -> usize
-    requires { at + 2 * length octets.now ≤ vec_len room.old }
-    ensures value { take result room.new.items ≡ take at room.old.items ++ encode_lower octets.now }
+fn put_digits(buffer: &mut Vec<u8>, at: usize, octets: &[u8]) -> usize
+    requires { at + 2 * length octets.now ≤ vec_len buffer.old }
+    ensures value { take result buffer.new.items ≡ take at buffer.old.items ++ encode_lower octets.now }
     ensures end { result ≡ at + 2 * length octets.now }
-    ensures len { vec_len room.new ≡ vec_len room.old }
+    ensures len { vec_len buffer.new ≡ vec_len buffer.old }
 {
     let end = at + 2 * octets.len();
-    encode(octets, &mut room.as_mut_slice()[at..end]);
+    encode(octets, &mut buffer.as_mut_slice()[at..end]);
     end
 }
 
 // Writes the octets that digits are at the front; whether all of them are digits.
 #[inline(always)]
-fn put_decoded(room: &mut Vec<u8>, len: usize, digits: &[u8]) -> bool
+fn put_decoded(buffer: &mut Vec<u8>, len: usize, digits: &[u8]) -> bool
     requires digits { length digits.now ≡ 2 * len }
-    requires room { len ≤ vec_len room.old }
+    requires room { len ≤ vec_len buffer.old }
     ensures digits { result ≡ list_all is_hex_digit digits.now }
-    ensures value { result ≡ true → decode_of digits.now ≡ Ok (take len room.new.items) }
-    ensures len { vec_len room.new ≡ vec_len room.old }
+    ensures value { result ≡ true → decode_of digits.now ≡ Ok (take len buffer.new.items) }
+    ensures len { vec_len buffer.new ≡ vec_len buffer.old }
 {
-    decode_front(room.as_mut_slice(), len, digits)
+    decode_front(buffer.as_mut_slice(), len, digits)
 }
 
 // The same of a slice.
 #[inline(always)]
-fn decode_front(room: &mut [u8], len: usize, digits: &[u8]) -> bool
+fn decode_front(buffer: &mut [u8], len: usize, digits: &[u8]) -> bool
     requires digits { length digits.now ≡ 2 * len }
-    requires room { len ≤ length room.old }
+    requires room { len ≤ length buffer.old }
     ensures digits { result ≡ list_all is_hex_digit digits.now }
-    ensures value { result ≡ true → decode_of digits.now ≡ Ok (take len room.new) }
+    ensures value { result ≡ true → decode_of digits.now ≡ Ok (take len buffer.new) }
 {
-    decode(digits, &mut room[..len])
+    decode(digits, &mut buffer[..len])
 }

@@ -5,8 +5,8 @@ use Rattle.text_fields.proofs.kept.decode_front.Goals as goal
 pub returns-clause-value : goal.returns-clause-value
 returns-clause-value c = λ good.
     let octets = c.decode.new.octets in
-    let rest = drop c.args.len c.args.room.now in
+    let rest = drop c.args.len c.args.buffer.now in
     let long : length octets ≡ c.args.len =
-    omega (arith, length-append octets rest, length-drop c.args.len c.args.room.now) in
+    omega (arith, length-append octets rest, length-drop c.args.len c.args.buffer.now) in
     c.decode.ensures.octets good
     ∙ ap Ok (sym (ap (λ n. take n (octets ++ rest)) (sym long) ∙ take-append_seam octets rest))

@@ -8,7 +8,7 @@ returns g c = λ first done latest closed open_ sent so_far.
     (λ replayed emptied. runs_on first c.args.self.now (record c.args.self.now {
       rest = c.replay_lines.new.rest;
       lines = c.replay_lines.new.lines;
-      rooms = c.replay_lines.new.rooms;
+      buffers = c.replay_lines.new.buffers;
     }) done latest closed open_ sent c.args.bad c.args.number c.args.text.now c.replay_lines.new.report
     c.args.self.now.pace so_far replayed emptied refl)
     c.replay_lines.ensures.replayed c.replay_lines.ensures.emptied
