@@ -91,13 +91,13 @@ turned_packet slices book subscribers line slot p many is low moment =
     (λ prior stand. refl) (omega (arith, low, many)) moment
 
 -- one subscriber more, bound for its start slice
-push_bound : (old : List SubscriberState) (s : SubscriberState) (slot home : ℕ)
-    → (slot ≡ length old → s.destination ≡ home)
-    → destination_or home (slice_get (old ++ s ∷ []) slot) ≡ destination_or home (slice_get old slot)
-push_bound [] s zero home own = own refl
-push_bound [] s (suc slot) home own = refl
-push_bound (x ∷ old) s zero home own = refl
-push_bound (x ∷ old) s (suc slot) home own = push_bound old s slot home (λ same. own (ap suc same))
+push_bound : (old : List SubscriberState) (s : SubscriberState) (slot start : ℕ)
+    → (slot ≡ length old → s.destination ≡ start)
+    → destination_or start (slice_get (old ++ s ∷ []) slot) ≡ destination_or start (slice_get old slot)
+push_bound [] s zero start own = own refl
+push_bound [] s (suc slot) start own = refl
+push_bound (x ∷ old) s zero start own = refl
+push_bound (x ∷ old) s (suc slot) start own = push_bound old s slot start (λ same. own (ap suc same))
 
 admitted_standing : (slices slot : ℕ) (old new : List SubscriberState) (before : Histories)
     → slot ≡ length old → IsAdmitted slices slot old new → AreStanding old before → AreStanding new before

@@ -62,8 +62,8 @@ pub record RepresentsAll (rest : Rest) (before : Histories) : Type 0 where
 
 -- where a slot is bound for: by its subscriber, or its start slice
 abbrev pub destination_or : ℕ → Option SubscriberState → ℕ
-destination_or home None = home
-destination_or home (Some subscriber) = subscriber.destination
+destination_or start None = start
+destination_or start (Some subscriber) = subscriber.destination
 
 abbrev pub bound_at : Rest → ℕ → ℕ
 bound_at rest slot = destination_or (start_slice rest.slices slot) (slice_get rest.subscribers slot)

@@ -56,8 +56,8 @@ fn admit(
         Whose::Known(slot) => Ok(slot),
         Whose::New(imsi) => {
             let slot = Whose::New(imsi).admit(book)?;
-            let home = start_slice(slot, slices);
-            subscribers.push(Subscriber::new(alloc, slot, home)?)?;
+            let start = start_slice(slot, slices);
+            subscribers.push(Subscriber::new(alloc, slot, start)?)?;
             Ok(slot)
         }
     }

@@ -73,13 +73,13 @@ length-entries : (n : ℕ) (before : Histories) (made : List Meaning) → length
 length-entries n before [] = refl
 length-entries n before (now ∷ made) = ap suc (length-entries (n + 1) (behind_line before now) made)
 
-length-parts : (home : ℕ → ℕ) (count slices : ℕ) (book : List (List ℕ)) (lines : List Line) (parts : List ℕ)
-    → AreFor home count slices book lines parts → length parts ≡ length lines
-length-parts home count slices book [] [] meant = refl
-length-parts home count slices book [] (part ∷ parts) meant = absurd meant
-length-parts home count slices book (line ∷ lines) [] meant = absurd meant
-length-parts home count slices book (line ∷ lines) (part ∷ parts) meant =
-    ap suc (length-parts home count slices (book_after book line) lines parts meant.1)
+length-parts : (part_of : ℕ → ℕ) (count slices : ℕ) (book : List (List ℕ)) (lines : List Line) (parts : List ℕ)
+    → AreFor part_of count slices book lines parts → length parts ≡ length lines
+length-parts part_of count slices book [] [] meant = refl
+length-parts part_of count slices book [] (part ∷ parts) meant = absurd meant
+length-parts part_of count slices book (line ∷ lines) [] meant = absurd meant
+length-parts part_of count slices book (line ∷ lines) (part ∷ parts) meant =
+    ap suc (length-parts part_of count slices (book_after book line) lines parts meant.1)
 
 length-part : (own : ℕ) (book : List (List ℕ)) (lines : List Line) (parts : List ℕ) (others : List Line)
     → IsPart own book lines parts others → length lines ≡ length others
@@ -109,8 +109,8 @@ module _ (setup : Setup) (input : Input) where
       ∙ ap (λ n. entries_from (1 + n) no_events (stop_noted input.stop))
       (length-meant_from (slices_of setup) [] input.lines)
 
-module _ (home : ℕ → ℕ) (count : ℕ) (parts : List ℕ) (setup : Setup) (input : Input) (inputs : ℕ → Input)
-    (cut : IsCutInto home count (slices_of setup) parts input inputs) where
+module _ (part_of : ℕ → ℕ) (count : ℕ) (parts : List ℕ) (setup : Setup) (input : Input) (inputs : ℕ → Input)
+    (cut : IsCutInto part_of count (slices_of setup) parts input inputs) where
   lockstep : (in_one (answered_report setup input)).lines
       ≡ in_lockstep parts (λ part. (in_one (answered_report setup (inputs part))).lines) ++ bad_noted input
   lockstep =
@@ -125,35 +125,35 @@ module _ (home : ℕ → ℕ) (count : ℕ) (parts : List ℕ) (setup : Setup) (
         length-entries 1 no_events (made setup (inputs part)),
         length-meant_from slices [] (inputs part).lines,
         length-part part [] input.lines parts (inputs part).lines (cut.each part among),
-        length-parts home count slices [] input.lines parts cut.meant,
+        length-parts part_of count slices [] input.lines parts cut.meant,
       ) in
       let same : (part : ℕ) → part < count → those part parts entries ≡ those part parts (told part) =
       λ part among. ap (those part parts) (sym (append-nil entries))
-      ∙ those_same home count slices part 1 [] [] no_events no_events input.lines parts (inputs part).lines []
+      ∙ those_same part_of count slices part 1 [] [] no_events no_events input.lines parts (inputs part).lines []
       (behind setup (inputs part)) cut.meant (cut.each part among) refl (λ slot mine. refl) (λ slot mine. refl) in
       let steps = in_step count parts entries told
       (length-entries 1 no_events (made setup input) ∙ length-meant_from slices [] input.lines
-      ∙ sym (length-parts home count slices [] input.lines parts cut.meant))
-      (parts_below home count slices [] input.lines parts cut.meant) long same in
+      ∙ sym (length-parts part_of count slices [] input.lines parts cut.meant))
+      (parts_below part_of count slices [] input.lines parts cut.meant) long same in
       whole_lines setup input
       ∙ (λ i. steps i ++ noted_is setup input i)
       ∙ ap (λ (lists : ℕ → List LineEntry). in_lockstep parts lists ++ bad_noted input)
       (λ i part. sym (whole_lines setup (inputs part)) i)
 
-  -- what the home of a slot tells of it
+  -- what the part of a slot tells of it
   of_slot : (slot : ℕ) → TellTheSame (only slot) (answered_report setup input)
-      (answered_report setup (inputs (home slot)))
+      (answered_report setup (inputs (part_of slot)))
   of_slot slot =
-      let own = home slot in
+      let own = part_of slot in
       neighbours_change_nothing (only slot) setup input (inputs own)
-      (alike_to_fewer (is_of home own) (only slot) (slices_of setup) [] input.lines (inputs own).lines
-      (λ s is. only_own (is_of home own) slot s (eq-eqb own own refl) is)
-      (part_alike home count (slices_of setup) own [] input.lines parts (inputs own).lines cut.meant
-      (cut.each own (cut.homes slot))))
+      (alike_to_fewer (is_of part_of own) (only slot) (slices_of setup) [] input.lines (inputs own).lines
+      (λ s is. only_own (is_of part_of own) slot s (eq-eqb own own refl) is)
+      (part_alike part_of count (slices_of setup) own [] input.lines parts (inputs own).lines cut.meant
+      (cut.each own (cut.within slot))))
 
 pub parts_tell_all : PartsTellAll
-parts_tell_all home count parts setup input inputs cut = record {
-  lines = lockstep home count parts setup input inputs cut;
-  each = λ slot. (of_slot home count parts setup input inputs cut slot).each slot (eq-eqb slot slot refl);
-  opens = λ slot. (of_slot home count parts setup input inputs cut slot).opens;
+parts_tell_all part_of count parts setup input inputs cut = record {
+  lines = lockstep part_of count parts setup input inputs cut;
+  each = λ slot. (of_slot part_of count parts setup input inputs cut slot).each slot (eq-eqb slot slot refl);
+  opens = λ slot. (of_slot part_of count parts setup input inputs cut slot).opens;
 }

@@ -44,8 +44,8 @@ same_in_step count (part ∷ parts) told other below same =
     λ i. now i ++ later i
 
 pub solo_parts_tell_all : SoloPartsTellAll
-solo_parts_tell_all home count parts octets text report traces texts reports wrote each cut =
-    let all = parts_tell_all home count parts solo (input_of octets) (λ part. input_of (traces part)) cut in
+solo_parts_tell_all part_of count parts octets text report traces texts reports wrote each cut =
+    let all = parts_tell_all part_of count parts solo (input_of octets) (λ part. input_of (traces part)) cut in
     let whole = report_is octets text report wrote in
     let is : (part : ℕ) → part < count → reports part ≡ answered_report solo (input_of (traces part)) =
     λ part among. report_is (traces part) (texts part) (reports part) (each part among) in
@@ -54,10 +54,10 @@ solo_parts_tell_all home count parts octets text report traces texts reports wro
           ∙ ap (λ (lines : List LineEntry). lines ++ bad_noted (input_of octets))
           (same_in_step count parts (λ part. (in_one (answered_report solo (input_of (traces part)))).lines)
           (λ part. (in_one (reports part)).lines)
-          (parts_below home count slices [] (input_of octets).lines parts cut.meant)
+          (parts_below part_of count slices [] (input_of octets).lines parts cut.meant)
           (λ part among. ap (λ r. (in_one r).lines) (sym (is part among))));
       each = λ slot. ap (λ r. epoch_of (only slot) (in_one r)) whole ∙ all.each slot
-          ∙ ap (λ r. epoch_of (only slot) (in_one r)) (sym (is (home slot) (cut.homes slot)));
+          ∙ ap (λ r. epoch_of (only slot) (in_one r)) (sym (is (part_of slot) (cut.within slot)));
       opens = λ slot. ap (opens_of (only slot)) whole ∙ all.opens slot
-          ∙ ap (opens_of (only slot)) (sym (is (home slot) (cut.homes slot)));
+          ∙ ap (opens_of (only slot)) (sym (is (part_of slot) (cut.within slot)));
     }

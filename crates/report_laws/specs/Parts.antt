@@ -16,22 +16,22 @@ use Rattle.lawful_run.specs.Trace.{answered_report, stop_noted}
 use Rattle.report_laws.specs.Lines.{AreAlike}
 use Rattle.report_laws.specs.Told.{epoch_of, in_one, only, opens_of}
 
--- Each slot has a home among so many parts, and a line is for one of them: for that of the slot that it is a command,
+-- Each slot belongs to one of so many parts, and a line is for one: for that of the slot that it is a command,
 -- packet or move of. What is nobody's may be for any, as for part 0.
 abbrev pub IsFor : (ℕ → ℕ) → List (List ℕ) → Decision → ℕ → Type 0
-IsFor home book (Command whose asks) part = home (slot_of book whose) ≡ part
-IsFor home book (Packet at lent) part = home at ≡ part
-IsFor home book (Move at slice) part = home at ≡ part
-IsFor home book (Note text) part = Unit {0}
+IsFor part_of book (Command whose asks) part = part_of (slot_of book whose) ≡ part
+IsFor part_of book (Packet at lent) part = part_of at ≡ part
+IsFor part_of book (Move at slice) part = part_of at ≡ part
+IsFor part_of book (Note text) part = Unit {0}
 
 -- so of lines behind this book
 abbrev pub AreFor : (ℕ → ℕ) → (count slices : ℕ) → List (List ℕ) → List Line → (parts : List ℕ) → Type 0
-AreFor home count slices book [] [] = Unit {0}
-AreFor home count slices book [] (part ∷ parts) = ⊥
-AreFor home count slices book (line ∷ lines) [] = ⊥
-AreFor home count slices book (line ∷ lines) (part ∷ parts) =
-    ((part < count) × IsFor home book (decided slices book line) part)
-    × AreFor home count slices (book_after book line) lines parts
+AreFor part_of count slices book [] [] = Unit {0}
+AreFor part_of count slices book [] (part ∷ parts) = ⊥
+AreFor part_of count slices book (line ∷ lines) [] = ⊥
+AreFor part_of count slices book (line ∷ lines) (part ∷ parts) =
+    ((part < count) × IsFor part_of book (decided slices book line) part)
+    × AreFor part_of count slices (book_after book line) lines parts
 
 -- In the place of a line that admits no one, and is for another part, stands one that is noted.
 pub record IsReplaced (book : List (List ℕ)) (part own : ℕ) (line other : Line) : Type 0 where
@@ -52,7 +52,7 @@ IsPart own book (line ∷ lines) (part ∷ parts) (other ∷ others) =
 
 -- a slot is one of a part's
 abbrev pub is_of : (ℕ → ℕ) → ℕ → ℕ → Bool
-is_of home part slot = home slot == part
+is_of part_of part slot = part_of slot == part
 
 -- the first of what is left, if there is one, and the others
 abbrev pub next_of : {X : Type 0} → List X → List X
@@ -73,29 +73,29 @@ abbrev pub bad_noted : Input → List LineEntry
 bad_noted input = entries_from (1 + length input.lines) no_events (stop_noted input.stop)
 
 -- What the reports of parts tell is all that the whole one tells: each line's entry is that of the part that it is for,
--- and the bad line's stands behind them. Of each slot its home tells the same, over all epochs, and its open counters.
-pub record TellAll (home : ℕ → ℕ) (parts : List ℕ) (input : Input) (report : Report) (reports : ℕ → Report) :
+-- and the bad line's stands behind them. Of each slot its part tells the same, over all epochs, and its open counters.
+pub record TellAll (part_of : ℕ → ℕ) (parts : List ℕ) (input : Input) (report : Report) (reports : ℕ → Report) :
     Type 0 where
   pub lines : (in_one report).lines
       ≡ in_lockstep parts (λ part. (in_one (reports part)).lines) ++ bad_noted input
   pub each : (slot : ℕ)
-      → epoch_of (only slot) (in_one report) ≡ epoch_of (only slot) (in_one (reports (home slot)))
-  pub opens : (slot : ℕ) → opens_of (only slot) report ≡ opens_of (only slot) (reports (home slot))
+      → epoch_of (only slot) (in_one report) ≡ epoch_of (only slot) (in_one (reports (part_of slot)))
+  pub opens : (slot : ℕ) → opens_of (only slot) report ≡ opens_of (only slot) (reports (part_of slot))
 
 -- An input is cut into so many others, by the part that each line is for.
-pub record IsCutInto (home : ℕ → ℕ) (count slices : ℕ) (parts : List ℕ) (input : Input) (inputs : ℕ → Input) :
+pub record IsCutInto (part_of : ℕ → ℕ) (count slices : ℕ) (parts : List ℕ) (input : Input) (inputs : ℕ → Input) :
     Type 0 where
-  pub homes : (slot : ℕ) → home slot < count
-  pub meant : AreFor home count slices [] input.lines parts
+  pub within : (slot : ℕ) → part_of slot < count
+  pub meant : AreFor part_of count slices [] input.lines parts
   pub each : (part : ℕ) → part < count → IsPart part [] input.lines parts (inputs part).lines
 
 abbrev pub PartsTellAll : Type 0
-PartsTellAll = (home : ℕ → ℕ) (count : ℕ) (parts : List ℕ) (setup : Setup) (input : Input) (inputs : ℕ → Input)
-    → IsCutInto home count (slices_of setup) parts input inputs
-    → TellAll home parts input (answered_report setup input) (λ part. answered_report setup (inputs part))
+PartsTellAll = (part_of : ℕ → ℕ) (count : ℕ) (parts : List ℕ) (setup : Setup) (input : Input) (inputs : ℕ → Input)
+    → IsCutInto part_of count (slices_of setup) parts input inputs
+    → TellAll part_of parts input (answered_report setup input) (λ part. answered_report setup (inputs part))
 
 -- The whole and a part are alike to the part's slots.
 abbrev pub PartsAreAlike : Type 0
-PartsAreAlike = (home : ℕ → ℕ) (count slices own : ℕ) (lines : List Line) (parts : List ℕ) (others : List Line)
-    → AreFor home count slices [] lines parts → IsPart own [] lines parts others
-    → AreAlike (is_of home own) slices [] lines others
+PartsAreAlike = (part_of : ℕ → ℕ) (count slices own : ℕ) (lines : List Line) (parts : List ℕ) (others : List Line)
+    → AreFor part_of count slices [] lines parts → IsPart own [] lines parts others
+    → AreAlike (is_of part_of own) slices [] lines others

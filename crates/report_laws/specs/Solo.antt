@@ -28,9 +28,9 @@ SoloInEachEpoch = (own : ℕ → Bool) (octets others text also : List ℕ) (rep
 
 -- A trace was run whole and in so many parts.
 abbrev pub SoloPartsTellAll : Type 0
-SoloPartsTellAll = (home : ℕ → ℕ) (count : ℕ) (parts : List ℕ) (octets text : List ℕ) (report : Report)
+SoloPartsTellAll = (part_of : ℕ → ℕ) (count : ℕ) (parts : List ℕ) (octets text : List ℕ) (report : Report)
     (traces texts : ℕ → List ℕ) (reports : ℕ → Report)
     → SoloWrote octets text report
     → ((part : ℕ) → part < count → SoloWrote (traces part) (texts part) (reports part))
-    → IsCutInto home count slices parts (input_of octets) (λ part. input_of (traces part))
-    → TellAll home parts (input_of octets) report reports
+    → IsCutInto part_of count slices parts (input_of octets) (λ part. input_of (traces part))
+    → TellAll part_of parts (input_of octets) report reports
