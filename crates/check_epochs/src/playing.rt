@@ -11,6 +11,7 @@ use pc_base::{Place, SliceNo};
 use pc_outside::{SureSink, SureSource};
 use replay_command::push_entries;
 use slice_core::run_epoch;
+use slot_execution::ToldEntry;
 use std::alloc::{AllocError, Global};
 use std::sync::Wait;
 use std::thread::Threads;
@@ -45,7 +46,7 @@ pub struct PlayedTrace {
 // Whether a packet was handled at this slice.
 fn handled_at(entries: &[FrontEntry], slice: SliceNo) -> bool {
     for entry in entries {
-        if let FrontEntry::Judgement {
+        if let ToldEntry::Judgement {
             place: Some(Place::At(at)),
             ..
         } = entry

@@ -6,6 +6,7 @@ ghost use Rattle.report_lines.specs.Text.{line_shown};
 ghost use Rattle.trace_run.specs.Entries.{line_of, lines_text};
 
 use epoch_drive::DrivenEntry;
+use slot_execution::ToldEntry;
 use std::alloc::AllocError;
 use text_fields::Text;
 use trace_run::{push_answer, push_note, push_packet, push_placed, push_refusal};
@@ -16,14 +17,14 @@ fn push_line(report: &mut Text, told: &DrivenEntry<'_>, places: bool) -> Result<
     ensures { OnOk result (report.new ≡ report.old ++ line_of (entry.Line (line_shown places (line_told told.now)))) }
 {
     match told {
-        DrivenEntry::Note { line, text } => push_note(report, *line, text),
-        DrivenEntry::Answer {
+        ToldEntry::Note { line, text } => push_note(report, *line, text),
+        ToldEntry::Answer {
             line,
             slot,
             number,
             reply,
         } => push_answer(report, *line, *slot, *number, reply),
-        DrivenEntry::Judgement {
+        ToldEntry::Judgement {
             line,
             slot,
             number,
@@ -40,7 +41,7 @@ fn push_line(report: &mut Text, told: &DrivenEntry<'_>, places: bool) -> Result<
                 push_packet(report, *line, *slot, *number, *commands, verdict)
             }
         }
-        DrivenEntry::Refusal { line, slot, packet } => push_refusal(report, *line, *slot, *packet),
+        ToldEntry::Refusal { line, slot, packet } => push_refusal(report, *line, *slot, *packet),
     }
 }
 

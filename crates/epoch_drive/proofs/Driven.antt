@@ -37,8 +37,7 @@ use Rattle.epoch_drive.specs.Opened.{opened}
 use Rattle.epoch_drive.specs.Replays.{HasDone, HaveDone, commands_at, commands_shared, events_shared, packets_at, packets_shared}
 use Rattle.epoch_drive.specs.Shares.{AreShares, IsShare, base_at, packets_alone, packets_lent}
 use Rattle.slot_execution.specs.Replaying.{rows_told}
-use Rattle.epoch_drive.specs.Telling.{line_told}
-use Rattle.epoch_drive.specs.declared.epoch.DrivenEntry.{DrivenEntry}
+use Rattle.epoch_drive.specs.Telling.{DrivenTold, line_told}
 use Rattle.epoch_drive.specs.declared.replays.SlotReplays.{SlotReplays}
 use Rattle.epoch_drive.specs.declared.replays.Replays.{Replays}
 use Rattle.epoch_drive.specs.declared.sharing.Share.{Share}
@@ -135,7 +134,7 @@ module _ (rooms : Rooms) (bounds : ℕ → ℕ) (turns : List (List ℕ)) (first
 -- subscribers did theirs, and entries were filled with what was told.
 pub record Drove (rooms : Rooms) (bounds : ℕ → ℕ) (turns : List (List ℕ)) (first : ℕ) (made : List Meaning)
     (old new : List SubscriberState) (plan : plans.Plan) (shares : List Share) (replays : Replays)
-    (told : List DrivenEntry) : Type 0 where
+    (told : List DrivenTold) : Type 0 where
   pub outs_are : plan.outcomes ≡ outcomes rooms bounds start (driven made turns)
   pub mets_are : (slot : ℕ) → plans.mets_of plan slot ≡ mets_driven rooms bounds turns made slot
   pub many : length shares ≡ length old
@@ -150,7 +149,7 @@ pub record Drove (rooms : Rooms) (bounds : ℕ → ℕ) (turns : List (List ℕ)
 
 module _ (rooms : Rooms) (bounds : ℕ → ℕ) (turns : List (List ℕ)) (first : ℕ) (before : Histories)
     (made : List Meaning) (old new : List SubscriberState) (plan : plans.Plan) (shares : List Share)
-    (replays : Replays) (told : List DrivenEntry)
+    (replays : Replays) (told : List DrivenTold)
     (drove : Drove rooms bounds turns first made old new plan shares replays told)
     (standing : AreStanding old before) where
   abbrev own_lines : List LineTold

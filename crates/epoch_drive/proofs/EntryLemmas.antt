@@ -14,13 +14,12 @@ use Rattle.epoch_schedule.specs.Front.{Outcome}
 use Rattle.slot_execution.specs.Replaying.{AreShort}
 use Rattle.slot_execution.specs.declared.replayed.NumberedVerdict.{NumberedVerdict}
 use Rattle.slot_execution.specs.declared.replayed.NumberedReply as told
-use Rattle.epoch_drive.specs.declared.epoch.DrivenEntry.{DrivenEntry}
-use Rattle.epoch_drive.specs.declared.epoch.DrivenEntry.TheVariants as entries
+use Rattle.slot_execution.specs.declared.told.ToldEntry.TheVariants as entries
 use Rattle.epoch_drive.specs.declared.replays.SlotReplays.{SlotReplays}
 use Rattle.epoch_drive.specs.Joins.{AllShort, FillsNext, TakesPacket, TakesReply, met_so, mets_at, mets_of, replied_so, replies_at, replies_of, told_of_command, told_of_packet}
 use Rattle.lawful_run.specs.Opened.{open_command, open_packet}
 use Rattle.epoch_drive.specs.DrivenOpened.{open_entries, open_entry}
-use Rattle.epoch_drive.specs.Telling.{IsShortEntry, line_told}
+use Rattle.epoch_drive.specs.Telling.{DrivenTold, IsShortEntry, line_told}
 
 -- lists by slot, where the value of one slot is another
 get_other : {X Y : Type 0} (f : X → List Y) (xs : List X) (own slot : ℕ) (x : X) → (own ≡ slot → ⊥)
@@ -106,11 +105,11 @@ next_judged xs ys (Some j) is rest n slot parked replies mets own =
     ap (λ ms. fill (open_packet n slot true parked) replies (λ k. ms)) (sym (ap (map met_so) is) ∙ own)
 
 -- the entries so far, and those that are left to fill
-abbrev pub Joins : (entries : List DrivenEntry) (left : List LineEntry) (replies : Replies) (mets : Mets)
+abbrev pub Joins : (entries : List DrivenTold) (left : List LineEntry) (replies : Replies) (mets : Mets)
     (whole : List LineEntry) → Type 0
 Joins entries left replies mets whole = map line_told entries ++ filled left replies mets ≡ whole
 
-pub joins_more : (entries : List DrivenEntry) (entry : DrivenEntry) (open_ : LineEntry) (left rest : List LineEntry)
+pub joins_more : (entries : List DrivenTold) (entry : DrivenTold) (open_ : LineEntry) (left rest : List LineEntry)
     (replies replies_now : Replies) (mets mets_now : Mets) (whole : List LineEntry)
     → Joins entries left replies mets whole → left ≡ open_ ∷ rest → line_told entry ≡ fill open_ replies mets
     → ((slot : ℕ) → replies_now slot ≡ others_of (replied_slot open_) replies slot)
@@ -123,7 +122,7 @@ joins_more entries entry open_ left rest replies replies_now mets mets_now whole
     ∙ ap (λ l. map line_told entries ++ filled l replies mets) (sym is)
     ∙ joins
 
-pub joins_next : (entries : List DrivenEntry) (entry : DrivenEntry) (first i : ℕ) (it : Meaning) (rest left : List Meaning)
+pub joins_next : (entries : List DrivenTold) (entry : DrivenTold) (first i : ℕ) (it : Meaning) (rest left : List Meaning)
     (outs : List Outcome) (o : Outcome) (old new : List SlotReplays) (whole : List LineEntry)
     → i < length outs → o ≡ get_or outs i o → left ≡ it ∷ rest
     → Joins entries (open_entries (first + i) left (drop i outs)) (replies_at old) (mets_at old) whole
@@ -143,7 +142,7 @@ joins_next entries entry first i it rest left outs o old new whole low o_is left
     ∙ ap (λ k. open_entry (first + i) it o ∷ open_entries k rest (drop (i + 1) outs)) at)
     fills.filled_so fills.replies fills.mets
 
-pub joins_over : (entries : List DrivenEntry) (n : ℕ) (left : List Meaning) (outs : List Outcome) (replies : Replies)
+pub joins_over : (entries : List DrivenTold) (n : ℕ) (left : List Meaning) (outs : List Outcome) (replies : Replies)
     (mets : Mets) (whole : List LineEntry) → left ≡ []
     → Joins entries (open_entries n left outs) replies mets whole → map line_told entries ≡ whole
 joins_over entries n left outs replies mets whole none joins =
@@ -158,7 +157,7 @@ next_short xs ys (Some j) is short =
     All-head (λ (judged : NumberedVerdict). IsShort judged.verdict) j ys (subst AreShort is short)
 
 -- the entry of a command, or a packet, that was taken
-pub fills_command : (old new : List SlotReplays) (n slot : ℕ) (taken : Bool) (next : Option told.NumberedReply) (entry : DrivenEntry)
+pub fills_command : (old new : List SlotReplays) (n slot : ℕ) (taken : Bool) (next : Option told.NumberedReply) (entry : DrivenTold)
     → taken ≡ true → slot < length old → TakesReply old new slot next
     → line_told entry ≡ told_of_command n slot next → IsShortEntry entry
     → FillsNext old new (open_command n slot taken) entry
@@ -187,7 +186,7 @@ fills_command old new n slot taken next entry is_taken low takes told_so short =
     } in
     subst (λ t. FillsNext old new (open_command n slot t) entry) (sym is_taken) fills
 
-pub fills_packet : (old new : List SlotReplays) (n slot : ℕ) (taken parked : Bool) (next : Option NumberedVerdict) (entry : DrivenEntry)
+pub fills_packet : (old new : List SlotReplays) (n slot : ℕ) (taken parked : Bool) (next : Option NumberedVerdict) (entry : DrivenTold)
     → taken ≡ true → slot < length old → TakesPacket old new slot next
     → line_told entry ≡ told_of_packet n slot parked next
     → (IfSome next (λ (j : NumberedVerdict). IsShort j.verdict) → IsShortEntry entry)

@@ -17,9 +17,7 @@ use Rattle.epoch_drive.specs.Lines.{rooms_of}
 use Rattle.at_rest.specs.Meant.{AreStanding}
 use Rattle.epoch_drive.specs.Steps.{DoesLines}
 use Rattle.slot_execution.specs.Replaying.{rows_told}
-use Rattle.epoch_drive.specs.Telling.{line_told, told_by}
-use Rattle.epoch_drive.specs.declared.epoch.DrivenEntry.{DrivenEntry}
-use Rattle.epoch_drive.specs.declared.epoch.DrivenEpoch.{DrivenEpoch}
+use Rattle.epoch_drive.specs.Telling.{DrivenTold, EpochTold, line_told, told_by}
 use Rattle.epoch_drive.specs.declared.replays.Replays.{Replays}
 use Rattle.epoch_drive.specs.declared.sharing.Share.{Share}
 use Rattle.epoch_drive.proofs.Driven.{Drove, events_none, events_told, is_driven}
@@ -28,7 +26,7 @@ use Rattle.epoch_drive.proofs.Ends as ends
 use Rattle.epoch_drive.proofs.Finals as finals
 
 module _ (rest : Rest) (lines : List Line) (turns : List (List ℕ)) (book_now : List (List ℕ))
-    (new : List SubscriberState) (epoch : DrivenEpoch)
+    (new : List SubscriberState) (epoch : EpochTold)
     (steps : DoesLines (rooms_of rest) rest.slices (rest.lines + 1) turns rest.book rest.subscribers lines book_now new
     epoch)
     (at_rest : AreAtRest rest.slices rest.lines rest.latest rest.subscribers)
@@ -48,7 +46,7 @@ module _ (rest : Rest) (lines : List Line) (turns : List (List ℕ)) (book_now :
   abbrev replays : Replays
   replays = steps.replays
 
-  abbrev told : List DrivenEntry
+  abbrev told : List DrivenTold
   told = epoch.lines.items
 
   drove : Drove (rooms_of rest) (bound_at rest) turns (rest.lines + 1) made mid new plan shares replays told

@@ -15,7 +15,7 @@ use Rattle.at_rest.specs.Coming.{latest_behind}
 use Rattle.epoch_drive.specs.Lines.{rooms_of}
 use Rattle.epoch_drive.specs.Steps.{DoesLines, MayDo}
 use Rattle.epoch_drive.specs.Taken.{AreTaken, HasTaken, IsResting, MayCome, rest_of}
-use Rattle.epoch_drive.specs.declared.epoch.DrivenEpoch.{DrivenEpoch}
+use Rattle.epoch_drive.specs.Telling.{EpochTold}
 use Rattle.epoch_drive.specs.declared.gateway.DrivenGateway.{DrivenGateway}
 use Rattle.epoch_drive.specs.declared.kept.EpochLines.{EpochLines}
 use Rattle.epoch_drive.proofs.Drives.{length-asks}
@@ -66,7 +66,7 @@ module _ (start : Rest) (taken : List Line) (gateway : DrivenGateway) (lines : E
     few = omega (arith, may.few, has.set_up.same_lines);
   }
 
-  pub steps_so : (rooms : Rooms) (turns : Turns) (new : List SubscriberState) (epoch : DrivenEpoch)
+  pub steps_so : (rooms : Rooms) (turns : Turns) (new : List SubscriberState) (epoch : EpochTold)
       → rooms ≡ record { room = gateway.room; lane = gateway.lane }
       → ((first_book : List (List ℕ)) (first : List SubscriberState) (lines_first : List Line)
       → AreTaken gateway.slices first_book first lines_first lines gateway.book gateway.subscribers.items
@@ -86,7 +86,7 @@ module _ (start : Rest) (taken : List Line) (gateway : DrivenGateway) (lines : E
       (does start.book start.subscribers taken are_taken)))
 
   -- the gateway is at rest behind the epoch
-  pub resting_so : SessionsKeepTheirSlot → MayCome start taken → (turns : List (List ℕ)) (new : DrivenGateway) (epoch : DrivenEpoch)
+  pub resting_so : SessionsKeepTheirSlot → MayCome start taken → (turns : List (List ℕ)) (new : DrivenGateway) (epoch : EpochTold)
       → DoesLines (rooms_of start) start.slices (start.lines + 1) turns start.book start.subscribers taken gateway.book
       new.subscribers.items epoch
       → new.slices ≡ gateway.slices → new.book ≡ gateway.book → new.lines ≡ gateway.lines + length taken

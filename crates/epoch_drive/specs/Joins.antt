@@ -8,8 +8,7 @@ use Rattle.slot_execution.specs.declared.replayed.NumberedVerdict.{NumberedVerdi
 use Rattle.slot_execution.specs.declared.replayed.NumberedReply as told
 use Rattle.lawful_run.specs.Opened.{open_command, open_packet}
 use Rattle.epoch_drive.specs.Replays.{AreShortAnswers}
-use Rattle.epoch_drive.specs.Telling.{IsShortEntry, line_told}
-use Rattle.epoch_drive.specs.declared.epoch.DrivenEntry.{DrivenEntry}
+use Rattle.epoch_drive.specs.Telling.{DrivenTold, IsShortEntry, line_told}
 use Rattle.epoch_drive.specs.declared.replays.SlotReplays.{SlotReplays}
 
 abbrev pub replied_so : told.NumberedReply → Replied
@@ -75,7 +74,7 @@ pub record TakesPacket (old new : List SlotReplays) (slot : ℕ) (next : Option 
   pub same : after.replies.items ≡ before.replies.items
 
 -- an open entry is filled with what is told next of its slot, which is taken
-pub record FillsNext (old new : List SlotReplays) (open_ : LineEntry) (entry : DrivenEntry) : Type 0 where
+pub record FillsNext (old new : List SlotReplays) (open_ : LineEntry) (entry : DrivenTold) : Type 0 where
   pub filled_so : line_told entry ≡ fill open_ (replies_at old) (mets_at old)
   pub many : length new ≡ length old
   pub replies : (slot : ℕ) → replies_at new slot ≡ others_of (replied_slot open_) (replies_at old) slot

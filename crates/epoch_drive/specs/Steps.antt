@@ -18,8 +18,7 @@ use Rattle.epoch_drive.specs.Opened.{opened}
 use Rattle.epoch_drive.specs.Replays.{HaveDone}
 use Rattle.epoch_drive.specs.Shares.{AreShares}
 use Rattle.epoch_drive.specs.Taken.{AreTaken}
-use Rattle.epoch_drive.specs.Telling.{line_told}
-use Rattle.epoch_drive.specs.declared.epoch.DrivenEpoch.{DrivenEpoch}
+use Rattle.epoch_drive.specs.Telling.{EpochTold, line_told}
 use Rattle.epoch_drive.specs.declared.kept.EpochLines.{EpochLines}
 use Rattle.epoch_drive.specs.declared.replays.Replays.{Replays}
 use Rattle.epoch_drive.specs.declared.sharing.Share.{Share}
@@ -40,7 +39,7 @@ pub record MayDo (slices count : ℕ) (lines : EpochLines) (book_now : List (Lis
 -- share, and entries are filled with what is told of it.
 pub record DoesLines (rooms : Rooms) (slices first : ℕ) (turns : List (List ℕ)) (book : List (List ℕ))
     (subscribers : List SubscriberState) (lines : List Line) (book_now : List (List ℕ))
-    (subscribers_now : List SubscriberState) (epoch : DrivenEpoch) : Type 0 where
+    (subscribers_now : List SubscriberState) (epoch : EpochTold) : Type 0 where
   pub made : List Meaning
   pub between : List SubscriberState
   pub plan : Plan

@@ -14,6 +14,7 @@ use crate::{DrivenEpoch, EpochLines};
 use address_book::AddressBook;
 use bumpalo::Bump;
 use epoch_schedule::{Rooms, Turns, schedule};
+use slot_execution::ToldEpoch;
 use std::alloc::AllocError;
 use subscriber::Subscriber;
 
@@ -98,7 +99,7 @@ fn do_lines_in<'a, 'b>(
         rows,
     } = replays;
     let entries = join(alloc, count + 1, kept, scheduled.outcomes(), &mut answers)?;
-    Ok(DrivenEpoch {
+    Ok(ToldEpoch {
         lines: entries,
         effects,
         rows,

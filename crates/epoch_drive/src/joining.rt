@@ -24,7 +24,7 @@ use crate::replays::SlotReplays;
 use epoch_schedule::LineOutcome;
 use packet_steps::LentVerdict;
 use pc_base::{Outcome as Done, Reply, Slot};
-use slot_execution::{NumberedReply, NumberedVerdict};
+use slot_execution::{NumberedReply, NumberedVerdict, ToldEntry};
 use std::alloc::{AllocError, Global};
 
 /// The entries of lines, which are counted on from this number.
@@ -64,7 +64,7 @@ fn entry_of<'a>(
         (open_entry line (meaning_in octets now.now) outcome) result }
 {
     match now {
-        KeptLine::Note(text) => DrivenEntry::Note {
+        KeptLine::Note(text) => ToldEntry::Note {
             line,
             text: text.as_slice(),
         },
@@ -72,7 +72,7 @@ fn entry_of<'a>(
             slot: _,
             slice: _,
             text,
-        } => DrivenEntry::Note {
+        } => ToldEntry::Note {
             line,
             text: text.as_slice(),
         },
@@ -101,7 +101,7 @@ fn command_entry<'a>(
         let next = next_reply(answers, slot);
         answer(line, slot, next)
     } else {
-        DrivenEntry::Refusal {
+        ToldEntry::Refusal {
             line,
             slot,
             packet: false,
@@ -123,7 +123,7 @@ fn packet_entry<'a>(
         let next = next_packet(answers, slot);
         judgement(line, slot, parked, next)
     } else {
-        DrivenEntry::Refusal {
+        ToldEntry::Refusal {
             line,
             slot,
             packet: true,
@@ -157,13 +157,13 @@ fn answer<'a>(line: u64, slot: Slot, next: Option<NumberedReply>) -> DrivenEntry
     ensures short { IsShortEntry result }
 {
     match next {
-        Some(replied) => DrivenEntry::Answer {
+        Some(replied) => ToldEntry::Answer {
             line,
             slot,
             number: replied.number,
             reply: replied.reply,
         },
-        None => DrivenEntry::Answer {
+        None => ToldEntry::Answer {
             line,
             slot,
             number: 0,
@@ -186,7 +186,7 @@ fn judgement<'a>(
     ensures short { IfSome next.entry (λ judged. IsShort judged.verdict) → IsShortEntry result }
 {
     match next {
-        Some(judged) => DrivenEntry::Judgement {
+        Some(judged) => ToldEntry::Judgement {
             line,
             slot,
             number: judged.number,
@@ -195,7 +195,7 @@ fn judgement<'a>(
             place: Some(judged.place),
             parked,
         },
-        None => DrivenEntry::Judgement {
+        None => ToldEntry::Judgement {
             line,
             slot,
             number: 0,

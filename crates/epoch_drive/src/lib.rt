@@ -5,9 +5,10 @@
 //!
 //! ```
 //! use at_rest::AtRest;
-//! use epoch_drive::{DrivenEntry, EpochLines, drive_epoch};
+//! use epoch_drive::{EpochLines, drive_epoch};
 //! use pc_base::{Moment, Slot};
 //! use epoch_schedule::Turns;
+//! use slot_execution::ToldEntry;
 //! use std::test::Fail;
 //! use trace_lines::read_line;
 //!
@@ -24,7 +25,7 @@
 //!     let (rest, epoch) = drive_epoch(rest, &lines, &mut kept, &mut turns)?;
 //!     assert_eq!(rt; (rest.lines, epoch.lines.len(), epoch.effects.len()), (1, 1, 0));
 //!     match &epoch.lines[0] {
-//!         DrivenEntry::Answer { line, slot, number, .. } => {
+//!         ToldEntry::Answer { line, slot, number, .. } => {
 //!             assert_eq!(rt; (*line, *slot, *number), (1, Slot(0), 0));
 //!             Ok(())
 //!         }

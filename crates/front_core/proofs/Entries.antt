@@ -13,17 +13,16 @@ use Rattle.counter_half.specs.declared.items.PacketDone.{PacketDone}
 use Rattle.lawful_run.specs.Filling.{Met, Replied, answered_with, fill, judged_with, filled, met_slot, others_of, replied_slot}
 use Rattle.lawful_run.specs.Opened.{open_command, open_packet}
 use Rattle.front_core.specs.declared.answers.SlotAnswers.{SlotAnswers}
-use Rattle.front_core.specs.declared.epoch.FrontEntry.{FrontEntry}
 use Rattle.front_core.specs.declared.taken.Taken.{Taken}
 use Rattle.front_core.specs.Entries.{open_of, opens_of}
-use Rattle.front_core.specs.Filled.{FillsFirst, FillsNext, TakesPacket, TakesReply, entry_told, met_so, mets_at, mets_of, replied_so, replies_at, replies_of, told_of_command, told_of_packet}
+use Rattle.front_core.specs.Filled.{FrontTold, FillsFirst, FillsNext, TakesPacket, TakesReply, entry_told, met_so, mets_at, mets_of, replied_so, replies_at, replies_of, told_of_command, told_of_packet}
 use Rattle.front_core.proofs.Popping.{popped, popped_rest}
 
 -- entries told so far, and those that are still to be filled
-abbrev pub Fills : List FrontEntry → List LineEntry → List SlotAnswers → List LineEntry → Type 0
+abbrev pub Fills : List FrontTold → List LineEntry → List SlotAnswers → List LineEntry → Type 0
 Fills told rest answers whole = map entry_told told ++ filled rest (replies_at answers) (mets_at answers) ≡ whole
 
-pub fills_next : (told : List FrontEntry) (open_ : LineEntry) (rest : List LineEntry) (old new : List SlotAnswers) (now : FrontEntry)
+pub fills_next : (told : List FrontTold) (open_ : LineEntry) (rest : List LineEntry) (old new : List SlotAnswers) (now : FrontTold)
     (whole : List LineEntry) → Fills told (open_ ∷ rest) old whole → FillsNext old new open_ now
     → Fills (told ++ now ∷ []) rest new whole
 fills_next told open_ rest old new now whole so next =
@@ -40,7 +39,7 @@ fills_next told open_ rest old new now whole so next =
     ∙ so
 
 -- the first of the lines that are left
-pub fills_more : (told : List FrontEntry) (now : FrontEntry) (n : ℕ) (old new : List Taken) (before after : List SlotAnswers)
+pub fills_more : (told : List FrontTold) (now : FrontTold) (n : ℕ) (old new : List Taken) (before after : List SlotAnswers)
     (whole : List LineEntry) → Fills told (opens_of n (reverse old)) before whole → FillsFirst n old new before after now
     → Fills (told ++ now ∷ []) (opens_of (n + 1) (reverse new)) after whole
 fills_more told now n old new before after whole so next =
@@ -48,7 +47,7 @@ fills_more told now n old new before after whole so next =
     (subst (λ (l : List Taken). Fills told (opens_of n l) before whole) next.first so) next.fills
 
 -- .. until none is left
-pub fills_over : (told : List FrontEntry) (n : ℕ) (left : List Taken) (answers : List SlotAnswers) (whole : List LineEntry)
+pub fills_over : (told : List FrontTold) (n : ℕ) (left : List Taken) (answers : List SlotAnswers) (whole : List LineEntry)
     → Fills told (opens_of n (reverse left)) answers whole → left ≡ [] → map entry_told told ≡ whole
 fills_over told n left answers whole so none =
     sym (append-nil (map entry_told told))
@@ -143,7 +142,7 @@ module _ (n slot : ℕ) (old : List SlotAnswers) (before after : SlotAnswers) (n
         reply = record { outcome = Done; message = None };
       }) l)) (own_replies ∙ ap (map replied_so) are))
 
-  pub fills_command : (now : FrontEntry) → entry_told now ≡ told_of_command n slot next
+  pub fills_command : (now : FrontTold) → entry_told now ≡ told_of_command n slot next
       → FillsNext old (set old slot after) (open_command n slot true) now
   fills_command now is = record {
     filled_so = is ∙ told_so next first rest;
@@ -194,7 +193,7 @@ module _ (n slot : ℕ) (parked : Bool) (old : List SlotAnswers) (before after :
   judged_so (Some done) are behind =
       sym (ap (λ (l : List Met). line.P (judged_with open_told l)) (had_mets ∙ ap (map met_so) are))
 
-  pub fills_packet : (now : FrontEntry) → entry_told now ≡ told_of_packet n slot parked next
+  pub fills_packet : (now : FrontTold) → entry_told now ≡ told_of_packet n slot parked next
       → FillsNext old (set old slot after) (open_packet n slot true parked) now
   fills_packet now is = record {
     filled_so = is ∙ judged_so next first rest;
@@ -210,7 +209,7 @@ module _ (n slot : ℕ) (parked : Bool) (old : List SlotAnswers) (before after :
   }
 
 -- so the next one of a slot fills an entry
-pub takes_command : (n slot : ℕ) (old new : List SlotAnswers) (next : Option CommandDone) (now : FrontEntry) → slot < length old
+pub takes_command : (n slot : ℕ) (old new : List SlotAnswers) (next : Option CommandDone) (now : FrontTold) → slot < length old
     → TakesReply old new slot next → entry_told now ≡ told_of_command n slot next
     → FillsNext old new (open_command n slot true) now
 takes_command n slot old new next now low takes is =
@@ -219,7 +218,7 @@ takes_command n slot old new next now low takes is =
     (popped takes.before.replies.items takes.after.replies.items next takes.pops.items)
     (popped_rest takes.before.replies.items takes.after.replies.items next takes.pops.items takes.pops.none) takes.same now is)
 
-pub takes_packet : (n slot : ℕ) (parked : Bool) (old new : List SlotAnswers) (next : Option PacketDone) (now : FrontEntry)
+pub takes_packet : (n slot : ℕ) (parked : Bool) (old new : List SlotAnswers) (next : Option PacketDone) (now : FrontTold)
     → slot < length old → TakesPacket old new slot next → entry_told now ≡ told_of_packet n slot parked next
     → FillsNext old new (open_packet n slot true parked) now
 takes_packet n slot parked old new next now low takes is =

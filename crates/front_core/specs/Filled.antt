@@ -6,7 +6,11 @@ use Rattle.counter_half.specs.declared.items.PacketDone.{PacketDone}
 use Rattle.report_lines.specs.declared.entry.LineEntry.{LineEntry}
 use Rattle.report_lines.specs.declared.entry.LineEntry.TheVariants as line_entry
 use Rattle.lawful_run.specs.Report.{EpochReport}
+use Rattle.pc_base.specs.declared.packet.Verdict.{Verdict}
 use Rattle.slot_execution.specs.Replaying.{effects_told, rows_told}
+use Rattle.slot_execution.specs.declared.told.ToldEntry.{ToldEntry}
+use Rattle.slot_execution.specs.declared.told.ToldEntry.TheVariants as entry
+use Rattle.slot_execution.specs.declared.told.ToldEpoch.{ToldEpoch}
 use Rattle.lawful_run.specs.Opened.{open_command, open_packet}
 use Rattle.lawful_run.specs.Filling.{Met, Mets, Replied, Replies, fill, met_slot, others_of, replied_slot}
 use Rattle.front_core.specs.Entries.{open_of}
@@ -16,11 +20,12 @@ use Rattle.front_core.specs.declared.taken.Taken.{Taken}
 use Rattle.front_core.specs.declared.took.Took.{Took}
 use Rattle.front_core.specs.declared.took.Took.TheVariants as took
 use Rattle.front_core.specs.declared.answers.SlotAnswers.{SlotAnswers}
-use Rattle.front_core.specs.declared.epoch.FrontEntry.{FrontEntry}
-use Rattle.front_core.specs.declared.epoch.FrontEntry.TheVariants as entry
-use Rattle.front_core.specs.declared.epoch.FrontEpoch.{FrontEpoch}
 
-abbrev pub entry_told : FrontEntry → LineEntry
+-- what the front tells of a line, with octets of its own
+abbrev pub FrontTold : Type 0
+FrontTold = ToldEntry (List ℕ) Verdict
+
+abbrev pub entry_told : ToldEntry (List ℕ) Verdict → LineEntry
 entry_told (entry.Note n text) = line_entry.N (record { line = n; note = text })
 entry_told (entry.Answer n slot number reply) =
     line_entry.C (record { line = n; slot = slot; number = number; reply = reply })
@@ -36,7 +41,7 @@ entry_told (entry.Judgement n slot number commands verdict place parked) = line_
 entry_told (entry.Refusal n slot packet) = line_entry.F (record { line = n; slot = slot; packet = packet })
 
 -- the report of an epoch
-abbrev pub told_by : FrontEpoch → EpochReport
+abbrev pub told_by : ToldEpoch (List ℕ) Verdict → EpochReport
 told_by epoch = record {
   lines = map entry_told epoch.lines.items;
   effects = effects_told epoch.effects.items;
@@ -75,7 +80,7 @@ IsWithin slots (open_entry.Packet slot parked) = slot < slots
 IsWithin slots (open_entry.Full slot packet) = Unit {0}
 
 -- an open entry is filled with what is told next of its slot, which is taken
-pub record FillsNext (old new : List SlotAnswers) (open_ : LineEntry) (told : FrontEntry) : Type 0 where
+pub record FillsNext (old new : List SlotAnswers) (open_ : LineEntry) (told : FrontTold) : Type 0 where
   pub filled_so : entry_told told ≡ fill open_ (replies_at old) (mets_at old)
   pub many : length new ≡ length old
   pub replies : (slot : ℕ) → replies_at new slot ≡ others_of (replied_slot open_) (replies_at old) slot
@@ -122,7 +127,7 @@ told_of_packet n slot parked (Some done) = line_entry.P (record {
 })
 
 -- the first of the lines that are left, which are in the order from the last, is filled
-pub record FillsFirst (line : ℕ) (old new : List Taken) (before after : List SlotAnswers) (told : FrontEntry) :
+pub record FillsFirst (line : ℕ) (old new : List Taken) (before after : List SlotAnswers) (told : FrontTold) :
     Type 0 where
   pub taken : Taken
   pub first : reverse old ≡ taken ∷ reverse new

@@ -11,7 +11,7 @@ ghost use Rattle.front_core.specs.Closing.{Closes};
 ghost use Rattle.front_core.specs.Filled.{told_by, took_told};
 ghost use Rattle.front_core.specs.Placed.{IsEntryBelow};
 
-use crate::epoch::{Ended, FrontEpoch};
+use crate::epoch::Ended;
 use crate::filling::fill_all;
 use crate::finishing::finish_all;
 use crate::homes::{controls_home, datas_home};
@@ -21,6 +21,7 @@ use at_rest::AtRest;
 use control_half::ControlHalf;
 use counter_half::DataHalf;
 use gate_model::sessions_keep_their_slot;
+use slot_execution::ToldEpoch;
 use std::sync::Wait;
 use worker_core::{DataEnd, WorkerEnd};
 
@@ -82,7 +83,7 @@ pub fn close<R: Wait>(
     let first = lines - entries.len() as u64 + 1;
     let told = fill_all(alloc, first, entries, &mut answers)?;
     Ok(Ended {
-        epoch: FrontEpoch {
+        epoch: ToldEpoch {
             lines: told,
             effects,
             rows,

@@ -22,6 +22,7 @@ use crate::{NoMemory, OpenEntry, Taken};
 use control_half::CommandDone;
 use counter_half::PacketDone;
 use pc_base::{Outcome, Reply, Slot, Verdict};
+use slot_execution::ToldEntry;
 use std::alloc::Global;
 
 /// The entries of lines, which are counted on from this number.
@@ -63,10 +64,10 @@ fn entry_of(line: u64, entry: OpenEntry, answers: &mut Vec<SlotAnswers>) -> Fron
     ensures { FillsNext answers.old.items answers.new.items (open_of line entry) result }
 {
     match entry {
-        OpenEntry::Note(text) => FrontEntry::Note { line, text },
+        OpenEntry::Note(text) => ToldEntry::Note { line, text },
         OpenEntry::Command(slot) => command_entry(line, slot, answers),
         OpenEntry::Packet { slot, parked } => packet_entry(line, slot, parked, answers),
-        OpenEntry::Full { slot, packet } => FrontEntry::Refusal { line, slot, packet },
+        OpenEntry::Full { slot, packet } => ToldEntry::Refusal { line, slot, packet },
     }
 }
 
@@ -108,13 +109,13 @@ fn answer(line: u64, slot: Slot, next: Option<CommandDone>) -> FrontEntry
     ensures { entry_told result ≡ told_of_command line slot next }
 {
     match next {
-        Some(done) => FrontEntry::Answer {
+        Some(done) => ToldEntry::Answer {
             line,
             slot,
             number: done.number,
             reply: done.reply,
         },
-        None => FrontEntry::Answer {
+        None => ToldEntry::Answer {
             line,
             slot,
             number: 0,
@@ -131,7 +132,7 @@ fn judgement(line: u64, slot: Slot, parked: bool, next: Option<PacketDone>) -> F
     ensures { entry_told result ≡ told_of_packet line slot parked next }
 {
     match next {
-        Some(done) => FrontEntry::Judgement {
+        Some(done) => ToldEntry::Judgement {
             line,
             slot,
             number: done.number,
@@ -140,7 +141,7 @@ fn judgement(line: u64, slot: Slot, parked: bool, next: Option<PacketDone>) -> F
             place: Some(done.place),
             parked,
         },
-        None => FrontEntry::Judgement {
+        None => ToldEntry::Judgement {
             line,
             slot,
             number: 0,

@@ -13,6 +13,7 @@ use crate::push_blocks;
 use at_rest::AtRest;
 use front_core::{Ended, FrontEpoch};
 use slice_core::{OpenGate, run_epoch};
+use slot_execution::ToldEpoch;
 use std::alloc::{AllocError, Global};
 use std::mem;
 use std::sync::Wait;
@@ -43,7 +44,7 @@ fn tell<R: Threads + Sync>(
     ensures { OnOk result (report.new ≡ report.old ++ (lines_text places (told_by epoch).lines
         ++ lines_text places (noted bad number) ++ closing_text places (told_by epoch))) }
 {
-    let FrontEpoch {
+    let ToldEpoch {
         lines,
         effects,
         rows,

@@ -6,6 +6,7 @@ ghost use Rattle.report_lines.specs.Text.{line_shown};
 ghost use Rattle.trace_run.specs.Entries.{line_of, lines_text};
 
 use front_core::FrontEntry;
+use slot_execution::ToldEntry;
 use std::alloc::AllocError;
 use text_fields::Text;
 use trace_run::{push_answer, push_judged, push_judged_placed, push_note, push_refusal};
@@ -16,14 +17,14 @@ fn push_entry(report: &mut Text, told: &FrontEntry, places: bool) -> Result<(), 
         ++ line_of (report_entry.Line (line_shown places (entry_told told.now)))) }
 {
     match told {
-        FrontEntry::Note { line, text } => push_note(report, *line, text.as_slice()),
-        FrontEntry::Answer {
+        ToldEntry::Note { line, text } => push_note(report, *line, text.as_slice()),
+        ToldEntry::Answer {
             line,
             slot,
             number,
             reply,
         } => push_answer(report, *line, *slot, *number, reply),
-        FrontEntry::Judgement {
+        ToldEntry::Judgement {
             line,
             slot,
             number,
@@ -40,7 +41,7 @@ fn push_entry(report: &mut Text, told: &FrontEntry, places: bool) -> Result<(), 
                 push_judged(report, *line, *slot, *number, *commands, verdict)
             }
         }
-        FrontEntry::Refusal { line, slot, packet } => push_refusal(report, *line, *slot, *packet),
+        ToldEntry::Refusal { line, slot, packet } => push_refusal(report, *line, *slot, *packet),
     }
 }
 

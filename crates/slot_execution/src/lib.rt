@@ -7,7 +7,9 @@ mod executing;
 mod lending;
 mod placed;
 mod replayed;
+mod told;
 
 pub use executing::replay;
 pub use placed::Placed;
 pub use replayed::{Caused, Closed, NumberedReply, NumberedVerdict, Replayed};
+pub use told::{ToldEntry, ToldEpoch};

@@ -8,8 +8,7 @@ use Rattle.epoch_drive.specs.Joins.{mets_at, replies_at}
 use Rattle.epoch_drive.specs.Kept.{meaning_in}
 use Rattle.at_rest.specs.Meant.{IsWithin}
 use Rattle.epoch_drive.specs.DrivenOpened.{open_entries}
-use Rattle.epoch_drive.specs.Telling.{AreShort, IsShortEntry}
-use Rattle.epoch_drive.specs.declared.epoch.DrivenEntry.{DrivenEntry}
+use Rattle.epoch_drive.specs.Telling.{DrivenTold, AreShort, IsShortEntry}
 use Rattle.epoch_drive.proofs.EntryLemmas.{Joins, joins_next, joins_over}
 use Rattle.epoch_drive.proofs.joining.join.Goals as goal
 
@@ -43,7 +42,7 @@ loop-i-preserved c =
           ∙ sym (get_or-map (meaning_in octets) c.args.kept.now at.i now it c.loop-i-test.true) in
           let whole : List LineEntry = filled (open_entries c.args.first made outs)
           (replies_at c.args.answers.now.items) (mets_at c.args.answers.now.items) in
-          subst (λ (es : List DrivenEntry). Joins es (open_entries (c.args.first + (at.i + 1)) (drop (at.i + 1) made)
+          subst (λ (es : List DrivenTold). Joins es (open_entries (c.args.first + (at.i + 1)) (drop (at.i + 1) made)
           (drop (at.i + 1) outs)) (replies_at answers) (mets_at answers) whole) (sym c.in_ok-push.ensures.items)
           (joins_next at.entries.items entry c.args.first at.i it (drop (at.i + 1) made) (drop at.i made) outs
           c.index-outcomes-i.result at.answers.items answers whole

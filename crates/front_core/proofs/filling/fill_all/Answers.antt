@@ -6,8 +6,7 @@ use Rattle.report_lines.specs.declared.entry.LineEntry.{LineEntry}
 use Rattle.lawful_run.specs.Filling.{filled}
 use Rattle.front_core.specs.declared.taken.Taken.{Taken}
 use Rattle.front_core.specs.Entries.{opens_of}
-use Rattle.front_core.specs.Filled.{IsWithin, mets_at, replies_at}
-use Rattle.front_core.specs.declared.epoch.FrontEntry.{FrontEntry}
+use Rattle.front_core.specs.Filled.{FrontTold, IsWithin, mets_at, replies_at}
 use Rattle.front_core.proofs.Entries.{Fills, fills_more}
 use Rattle.front_core.proofs.filling.fill_all.Goals as goal
 
@@ -29,7 +28,7 @@ loop-place-preserved c =
       many = next.fills.many ∙ at.invariant.many;
       within = All-rest (λ (taken : Taken). IsWithin (length c.args.answers.now.items) taken.open) next.taken
           (reverse left) (reverse at.entries.items) next.first at.invariant.within;
-      fills = subst (λ (es : List FrontEntry). Fills es (opens_of (c.args.first + (at.place + 1)) (reverse left))
+      fills = subst (λ (es : List FrontTold). Fills es (opens_of (c.args.first + (at.place + 1)) (reverse left))
           c.fill_next-entry.new.answers.items whole) (sym c.in_ok-push.ensures.items)
           (subst (λ (n : ℕ). Fills (at.told.items ++ c.fill_next-entry.result ∷ []) (opens_of n (reverse left))
           c.fill_next-entry.new.answers.items whole) on
