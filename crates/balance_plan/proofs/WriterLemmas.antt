@@ -1,9 +1,9 @@
 -- What a writer has written, one line more.
-use Rattle.std.proofs.Common.{◌≡◌, ◌≢◌, ℕ, ◌+◌, ◌<◌, ◌≤◌, ◌==◌, Bool, true, false, nat_lt, if◌then◌else◌, List, [], ◌∷◌, ◌++◌, Option, None, Some, ◌⊎◌, length, map, get_or, set, take, refl, sym, ap, ◌∙◌, subst, arith, append_assoc, append-nil, length-set}
+use Rattle.std.proofs.Common.{◌≡◌, ◌≢◌, ℕ, ◌+◌, ◌<◌, ◌≤◌, ◌==◌, Bool, true, false, nat_lt, if◌then◌else◌, List, [], ◌∷◌, ◌++◌, Option, None, Some, ◌⊎◌, inl, inr, length, map, get_or, set, take, refl, sym, ap, ◌∙◌, subst, arith, append_assoc, append-nil, get_or-set_same, get_or-set_other, length-set}
 use Rattle.std.specs.List.{All, AllPairs, Any, flat_map, position, position_or_len}
 use Rattle.std.specs.Prelude.{codes, fold, Result, Ok, Err, OnOk}
 use Rattle.std.specs.Str.{bytes_eq}
-use Rattle.std.proofs.lemmas.Bool.{cond-true, false_from_ne_true, lt-ltb}
+use Rattle.std.proofs.lemmas.Bool.{cases_eq, cond-true, eq-eqb, false_from_ne_true, lt-ltb, ne_eqb}
 use Rattle.std.proofs.lemmas.Grind.{flat_map-append}
 use Rattle.std.proofs.lemmas.List.{map-append, map_push, take_more}
 use Rattle.std.proofs.lemmas.List.Sums.{fold_push, position_or_len_is}
@@ -25,12 +25,24 @@ use Rattle.balance_plan.specs.declared.load.Planned.{Planned}
 use Rattle.report_lines.specs.declared.entry.Entry.{Entry}
 use Rattle.trace_lines.specs.Epochs.{is_fence}
 use Rattle.trace_lines.specs.Line.{Line}
-use Rattle.audit_core.proofs.ReadLemmas.{bound_set}
 use Rattle.balance_plan.specs.Balance.{Balance, balance_of, nothing, planned_at, with_given, with_line}
 use Rattle.balance_plan.specs.Plans.{move_line, moves_at}
 use Rattle.balance_plan.specs.Written.{Written, given, line_of, lines_of, planned, text_of, written_text}
 use Rattle.balance_plan.specs.Writing.{HasWritten, IsStep, IsWriter, Stands}
 use Rattle.balance_plan.specs.declared.writing.Writer.{Writer}
+
+-- a slot that is bound for another slice now
+pub bound_set : (bound : List ℕ) (own slice slot : ℕ) → own < length bound
+    → get_or (set bound own slice) slot 0 ≡ (if own == slot then slice else get_or bound slot 0)
+bound_set bound own slice slot within = elim (cases_eq own slot) [
+  | inl same ↦
+      ap (λ k. get_or (set bound own slice) k 0) (sym same)
+      ∙ get_or-set_same bound own slice 0 within
+      ∙ sym (ap (λ test. if test then slice else get_or bound slot 0) (eq-eqb own slot same))
+  | inr other ↦
+      get_or-set_other bound own slot slice 0 (λ is. other (sym is))
+      ∙ sym (ap (λ test. if test then slice else get_or bound slot 0) (ne_eqb own slot other))
+]
 
 below_by : (test : Bool) (slice before slices : ℕ) → slice < slices → before < slices
     → (if test then slice else before) < slices

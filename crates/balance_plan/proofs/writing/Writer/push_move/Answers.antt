@@ -4,8 +4,7 @@ use Rattle.pc_outside.specs.Limits.{newline}
 use Rattle.trace_lines.specs.Text.{line_text}
 use Rattle.balance_plan.specs.Plans.{move_line}
 use Rattle.balance_plan.specs.Written.{planned}
-use Rattle.audit_core.proofs.ReadLemmas.{bound_set}
-use Rattle.balance_plan.proofs.WriterLemmas.{move_decided, move_keeps, on_ok, stands_next}
+use Rattle.balance_plan.proofs.WriterLemmas.{bound_set, move_decided, move_keeps, on_ok, stands_next}
 use Rattle.balance_plan.proofs.writing.Writer.push_move.Goals as goal
 
 pub returns-clause-stands : goal.returns-clause-stands
