@@ -13,7 +13,8 @@ pub fn meant_by<'a>(alloc: Global, lines: &'a [TraceLine]) -> Result<Vec<Meant<'
     let mut subscribers = Vec::new(alloc);
     let mut all = Vec::new(alloc);
     for line in lines {
-        all.push(decide_line(alloc, SLICES, &mut book, &mut subscribers, line)?)?;
+        let meant = decide_line(alloc, SLICES, &mut book, &mut subscribers, line)?;
+        all.push(meant)?;
     }
     Ok(all)
 }
