@@ -10,12 +10,12 @@ returns-clause-stands c = λ story stands.
     stands_admitted c.args.self.now _ story c.args.imsi c.in_ok-slot.slot c.in_ok-new.field-0 stands
     (c.in_ok-slot.ensures.book ∙ ap (λ b. b ++ c.args.imsi ∷ []) stands.same_book)
     (c.in_ok-slot.ensures.slot ∙ ap length stands.same_book) c.in_ok-push.ensures.items refl
-    c.in_ok-new.ensures.stands (c.in_ok-new.ensures.destination ∙ c.home_slice-home.ensures) c.in_ok-new.ensures.last
+    c.in_ok-new.ensures.stands (c.in_ok-new.ensures.destination ∙ c.start_slice-home.ensures) c.in_ok-new.ensures.last
 
 pub returns-clause-admits : goal.returns-clause-admits
 returns-clause-admits c =
     let slot = c.in_ok-slot.ensures.slot in
-    let home = c.home_slice-home.ensures ∙ ap (start_slice slices) slot in
+    let home = c.start_slice-home.ensures ∙ ap (start_slice slices) slot in
     λ i. record {
       book = c.in_ok-slot.ensures.book i;
       subscribers = (c.in_ok-push.ensures.items ∙ ap (λ x. c.args.self.now.subscribers.items ++ x ∷ [])
