@@ -6,12 +6,12 @@ use Rattle.command_words.specs.declared.turns.AskedTurns.TheVariants as asked
 use Rattle.drive_command.specs.Driven.{Schedule, Turns, drawn, listed}
 
 -- where no turns are asked for, no worker has one
-abbrev pub turns_asked : words.Turns → Turns
+abbrev pub turns_asked : words.AskedTurns → Turns
 turns_asked asked.NoTurns = listed []
 turns_asked (asked.Listed workers) = listed workers
 turns_asked (asked.Drawn seed per) = drawn seed per
 
-abbrev pub schedule_asked : Lanes → words.Turns → Schedule
+abbrev pub schedule_asked : Lanes → words.AskedTurns → Schedule
 schedule_asked lanes turns = record {
   slices = lanes.slices;
   room = lanes.room;
