@@ -1,9 +1,9 @@
 //! An audit: whether a report is a lawful one of a trace, and where one that is refuted breaks the lawful run. A
 //! trace, and behind the line `REPORT` a report of it, are read from a source. What the trace's lines mean is kept by
-//! epochs, and of the report each entry by the epoch that it belongs to; then they are judged, epoch by epoch, and let
-//! go: the lines with the entries that answer them, and slot by slot what a subscriber makes of them in the order that
-//! the report tells. Of the first sentence of the lawful run that is broken the first break is kept, by the line of the
-//! trace, the slot, the entry as it stands, and what was due there.
+//! epochs, and of the report each entry by the epoch that it belongs to; then they are judged, epoch by epoch: the lines
+//! with the entries that answer them, and slot by slot what a subscriber makes of them in the order that the report
+//! tells. Of the first sentence of the lawful run that is broken the first break is kept, by the line of the trace, the
+//! slot, the entry as it stands, and what was due there.
 //!
 //! `evidence` is what was heard, `judge` what is found of it epoch by epoch. The sentences are `matching` (1),
 //! `walking` (2, and who may wait of 6), `counts` (3), `replies` (4), `charges` (5) and `order` (6).

@@ -13,8 +13,8 @@ use trace_maker::{Draws, Maker, made_line};
 pub fn words(alloc: Global, row: &Call, text: &mut String) -> Result<(), AllocError> {
     let words = row.texts(alloc, 1)?;
     match job(alloc, words.as_slice())? {
-        None => text.push_str("none\n"),
-        Some(Job::Solo) => text.push_str("solo\n"),
+        None => text.push_str("none")?,
+        Some(Job::Solo) => text.push_str("solo")?,
         Some(
             Job::Drive {
                 lanes,
@@ -24,8 +24,7 @@ pub fn words(alloc: Global, row: &Call, text: &mut String) -> Result<(), AllocEr
         ) => {
             push_lanes(text, "drive: ", lanes)?;
             push_turns(turns, text)?;
-            push_told(text, ", places ", &places)?;
-            text.push('\n')
+            push_told(text, ", places ", &places)?
         }
         Some(
             Job::Replay {
@@ -38,13 +37,12 @@ pub fn words(alloc: Global, row: &Call, text: &mut String) -> Result<(), AllocEr
             push_lanes(text, "replay: ", lanes)?;
             push_told(text, ", patience ", &patience)?;
             push_told(text, ", linger ", &linger)?;
-            push_told(text, ", places ", &places)?;
-            text.push('\n')
+            push_told(text, ", places ", &places)?
         }
-        Some(Job::Import) => text.push_str("import\n"),
-        Some(Job::Export) => text.push_str("export\n"),
-        Some(Job::Save) => text.push_str("save\n"),
-        Some(Job::Resume) => text.push_str("resume\n"),
+        Some(Job::Import) => text.push_str("import")?,
+        Some(Job::Export) => text.push_str("export")?,
+        Some(Job::Save) => text.push_str("save")?,
+        Some(Job::Resume) => text.push_str("resume")?,
         Some(
             Job::Make {
                 seed,
@@ -52,13 +50,7 @@ pub fn words(alloc: Global, row: &Call, text: &mut String) -> Result<(), AllocEr
                 lines,
                 summary,
             },
-        ) => {
-            push_told(text, "make: seed ", &seed)?;
-            push_told(text, ", ", &subs)?;
-            push_told(text, " subscribers, ", &lines)?;
-            push_told(text, " lines, summary ", &summary)?;
-            text.push('\n')
-        }
+        ) => push_make(text, seed, [subs, lines], summary)?,
         Some(
             Job::Audit {
                 solo,
@@ -69,18 +61,27 @@ pub fn words(alloc: Global, row: &Call, text: &mut String) -> Result<(), AllocEr
             },
         ) => {
             push_told(text, "audit: solo ", &solo)?;
-            push_told(text, ", ", &slices)?;
-            push_told(text, " slices, room ", &room)?;
-            push_told(text, ", lane ", &lane)?;
-            push_told(text, ", why ", &why)?;
-            text.push('\n')
+            push_lanes(text, ", ", Lanes { slices, room, lane })?;
+            push_told(text, ", why ", &why)?
         }
         Some(Job::Balance { slices, most }) => {
             push_told(text, "balance: ", &slices)?;
-            push_told(text, " slices, at most ", &most)?;
-            text.push('\n')
+            push_told(text, " slices, at most ", &most)?
         }
     }
+    text.push('\n')
+}
+
+fn push_make(
+    text: &mut String,
+    seed: u64,
+    counts: [u32; 2],
+    summary: bool,
+) -> Result<(), AllocError> {
+    push_told(text, "make: seed ", &seed)?;
+    push_told(text, ", ", &counts[0])?;
+    push_told(text, " subscribers, ", &counts[1])?;
+    push_told(text, " lines, summary ", &summary)
 }
 
 fn push_lanes(text: &mut String, command: &str, lanes: Lanes) -> Result<(), AllocError> {

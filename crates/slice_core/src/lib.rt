@@ -1,6 +1,6 @@
-//! An epoch over slices, in threads: the front takes the lines, while each slice has a thread for its control
-//! halves and one for its data halves. Each turns a worker until its post says stop or it runs out of memory, and
-//! gives the worker's end. Threads share lanes, posts and calls, and nothing else.
+//! An epoch over slices, in threads: the front takes the lines, while each slice has a thread, which turns its control
+//! worker and its data worker by turns until its post says stop or one of them runs out of memory, and gives both
+//! ends. It sleeps where it finds nothing to do. Threads share lanes, posts and calls, and nothing else.
 #![tactic(auto)]
 
 mod calls;

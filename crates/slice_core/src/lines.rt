@@ -54,7 +54,7 @@ fn call<R: Wait>(rt: &R, front: &Front, calls: &[Calls]) {
 }
 
 // Behind a line, and so many before it: threads that sleep are woken where there is a crowd, and these go first then,
-// or behind each 64th line. Tells how many lines there were since.
+// or where LINES lines went by before it. Tells how many lines there were since.
 fn let_go(posts: &[Post], since: u32, crowded: bool) -> u32 {
     if crowded {
         wake_all(posts);
