@@ -1,5 +1,7 @@
 -- Lists that grow with the numbers that are used.
-use Rattle.std.proofs.Common.{◌≡◌, ℕ, zero, suc, ◌<◌, ◌≤◌, List, [], ◌∷◌, ◌++◌, length, get_or, set, refl, ap, ◌∙◌, arith}
+use Rattle.std.proofs.Common.{◌≡◌, ℕ, zero, suc, ◌<◌, ◌≤◌, List, [], ◌∷◌, ◌++◌, length, get_or, set, refl, sym, ap, subst, ◌∙◌, arith, append-nil, append_assoc, length-append}
+use Rattle.std.proofs.lemmas.Fn.{chained_keeps}
+use Rattle.std.specs.List.{AppendsResults}
 use Rattle.epoch_schedule.specs.Numbers.{value_at, put_at}
 use Rattle.epoch_schedule.specs.Growing.{Reached}
 
@@ -45,6 +47,23 @@ grows_more fresh old new more n few is grows =
       value = value-grown fresh new n ∙ grows.value;
       puts = λ x. put-grown fresh new n x few ∙ grows.puts x;
     })
+
+-- .. by as many values as calls made, each of them fresh
+pub grows_calls : {X F : Type 0} (step : F → X → F → Type 0) (fresh : X) (old now new : List X) (f : F) (n : ℕ)
+    → ((p : F) (x : X) (q : F) → step p x q → x ≡ fresh) → AppendsResults step now new f → length new ≤ n
+    → Grows fresh old now n → Grows fresh old new n
+grows_calls step fresh old now new f n each made few grows =
+    subst (λ zs. Grows fresh old zs n) (sym made.2)
+    (chained_keeps step (λ xs p. length (now ++ xs) ≤ n → Grows fresh old (now ++ xs) n)
+    (λ xs p x q before stepped within.
+    let longer = length-append now (xs ++ x ∷ []) in
+    let pushed = length-append xs (x ∷ []) in
+    let shorter = length-append now xs in
+    grows_more fresh old (now ++ xs) (now ++ (xs ++ x ∷ [])) n (omega (arith, within, longer, pushed, shorter))
+    (sym (append_assoc now xs (x ∷ [])) ∙ ap (λ y. now ++ xs ++ y ∷ []) (each p x q stepped))
+    (before (omega (arith, within, longer, pushed, shorter))))
+    made.0 f made.1 (λ within. subst (λ zs. Grows fresh old zs n) (sym (append-nil now)) grows) made.3
+    (subst (λ zs. length zs ≤ n) made.2 few))
 
 pub reached : {X : Type 0} (fresh : X) (old new : List X) (n : ℕ) → n < length new → Grows fresh old new n
     → Reached fresh old new n

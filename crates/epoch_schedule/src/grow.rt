@@ -1,5 +1,5 @@
 //! Lists that grow with the numbers that are used.
-ghost use Rattle.std.specs.Prelude.{OnOk};
+ghost use Rattle.std.specs.Prelude.{◌≤◌, OnOk, length};
 ghost use Rattle.epoch_schedule.specs.Slots.{fresh_slot};
 ghost use Rattle.epoch_schedule.specs.World.{fresh_control, fresh_data};
 ghost use Rattle.epoch_schedule.specs.Growing.{Reached};
@@ -23,17 +23,18 @@ pub fn reach_slot<'b>(
     grow_slot(slots, arena, slot)
 }
 
+// Those before the slot are made in place, since there are many with many subscribers.
 #[inline(never)]
 fn grow_slot<'b>(
     slots: &mut Vec<SlotNumbers<'b>>,
     arena: &'b Bump,
     slot: usize,
 ) -> Result<(), AllocError>
+    requires { length slots.old.items ≤ slot }
     ensures { OnOk result (Reached fresh_slot slots.old.items slots.new.items slot) }
 {
-    while slots.len() <= slot {
-        slots.push(SlotNumbers::new(arena))?;
-    }
+    slots.resize_with(slot, || SlotNumbers::new(arena))?;
+    slots.push(SlotNumbers::new(arena))?;
     Ok(())
 }
 
