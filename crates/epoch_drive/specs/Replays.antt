@@ -1,5 +1,5 @@
 -- What the subscribers make of their shares.
-use Rattle.std.specs.Prelude.{◌≡◌, ℕ, ◌+◌, ◌≤◌, ◌<◌, List, [], ◌∷◌, ◌++◌, All, length, map, get_or}
+use Rattle.std.specs.Prelude.{◌≡◌, ℕ, ◌+◌, ◌≤◌, ◌<◌, List, [], ◌∷◌, ◌++◌, All, length, map, get_or, vec_capacity, vec_len}
 use Rattle.std.specs.Borrow.{Bor}
 use Rattle.control_steps.specs.declared.command.CommandKind.{CommandKind}
 use Rattle.gate_model.specs.Events.{commands_of, packets_of}
@@ -92,6 +92,13 @@ pub record AddsShare (old new : SubscriberState) (share : Share) (replays after 
   pub replayed : Replayed
   pub does : DoesShare old new share replayed
   pub adds : AddsReplayed replays after slot replayed
+
+-- there is room for what is told of one slot more, and as much in all as before
+abbrev pub HasRoom : Replays → Type 0
+HasRoom replays = vec_len replays.answers < vec_capacity replays.answers
+
+abbrev pub KeepsRoom : (replays after : Replays) → Type 0
+KeepsRoom replays after = vec_capacity after.answers ≡ vec_capacity replays.answers
 
 -- verdicts on packets are short
 abbrev pub AreShortAnswers : SlotReplays → Type 0

@@ -48,7 +48,7 @@ pub fn join<'a>(
     let mut entries = Vec::with_capacity(alloc, kept.len())?;
     for (i, now) in kept.iter().enumerate() {
         let entry = entry_of(first + i as u64, now, outcomes[i], answers);
-        entries.push(entry)?;
+        entries.push_reserved(entry);
     }
     Ok(entries)
 }

@@ -2,7 +2,7 @@
 ghost use Rattle.std.specs.Prelude.{◌≡◌, ◌≤◌, ◌++◌, ◌∷◌, [], length, map, vec_len, IfOk, OnOk};
 ghost use Rattle.slot_execution.specs.Replaying.{effects_told, rows_told};
 ghost use Rattle.report_lines.specs.declared.entry.ChargeEntry.TheVariants.{R};
-ghost use Rattle.epoch_drive.specs.Replays.{AddsShare, AllCanDo, CanDo, HaveDone};
+ghost use Rattle.epoch_drive.specs.Replays.{AddsShare, AllCanDo, CanDo, HasRoom, HaveDone, KeepsRoom};
 
 use crate::sharing::Share;
 use bumpalo::Bump;
@@ -73,8 +73,10 @@ fn do_share<'a, 'b>(
     share: &Share<'a, '_>,
     replays: &mut Replays<'a, 'b>,
 ) -> Result<(), AllocError>
-    requires { CanDo subscriber.old share.now }
-    ensures { OnOk result (AddsShare subscriber.old subscriber.new share.now replays.old replays.new slot) }
+    requires can { CanDo subscriber.old share.now }
+    requires room { HasRoom replays.old }
+    ensures adds { OnOk result (AddsShare subscriber.old subscriber.new share.now replays.old replays.new slot) }
+    ensures room { OnOk result (KeepsRoom replays.old replays.new) }
 {
     let commands = share.commands.as_slice();
     let packets = share.packets.as_slice();
@@ -108,12 +110,14 @@ fn add_replayed<'a, 'b>(
     slot: Slot,
     replayed: Replayed<'a, 'b>,
 ) -> Result<(), AllocError>
+    requires { HasRoom replays.old }
     ensures answers { OnOk result (replays.new.answers.items ≡ replays.old.answers.items
         ++ record { replies = replayed.entry.replies; packets = replayed.entry.packets } ∷ []) }
     ensures effects { OnOk result (effects_told replays.new.effects.items
         ≡ effects_told replays.old.effects.items ++ effects_told replayed.entry.effects.items) }
     ensures rows { OnOk result (rows_told replays.new.rows.items
         ≡ rows_told replays.old.rows.items ++ map (R slot) replayed.entry.rows.items) }
+    ensures room { OnOk result (KeepsRoom replays.old replays.new) }
 {
     let Replayed {
         replies,
@@ -121,7 +125,9 @@ fn add_replayed<'a, 'b>(
         effects,
         rows,
     } = replayed;
-    replays.answers.push(SlotReplays { replies, packets })?;
+    replays
+        .answers
+        .push_reserved(SlotReplays { replies, packets });
     add_effects(&mut replays.effects, effects)?;
     add_rows(&mut replays.rows, slot, rows)
 }

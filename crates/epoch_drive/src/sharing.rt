@@ -84,7 +84,7 @@ fn empty_shares<'a, 'b>(
             commands: Vec::new(arena),
             packets: Vec::with_capacity(arena, scheduled.met_count(i))?,
         };
-        shares.push(share)?;
+        shares.push_reserved(share);
     }
     Ok(shares)
 }

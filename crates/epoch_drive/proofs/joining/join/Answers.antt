@@ -32,6 +32,8 @@ loop-i-preserved c =
     let outs = c.args.outcomes.now in
     let answers = c.entry_of-entry.new.answers.items in
     record {
+      room = c.push_reserved.ensures.capacity ∙ at.invariant.room;
+      put = c.push_reserved.ensures.len ∙ ap (λ n. n + 1) at.invariant.put;
       many = (c.entry_of-entry.ensures []).many ∙ at.invariant.many;
       joins = λ octets.
           let made : List Meaning = map (meaning_in octets) c.args.kept.now in
@@ -43,13 +45,13 @@ loop-i-preserved c =
           let whole : List LineEntry = filled (open_entries c.args.first made outs)
           (replies_at c.args.answers.now.items) (mets_at c.args.answers.now.items) in
           subst (λ (es : List DrivenTold). Joins es (open_entries (c.args.first + (at.i + 1)) (drop (at.i + 1) made)
-          (drop (at.i + 1) outs)) (replies_at answers) (mets_at answers) whole) (sym c.in_ok-push.ensures.items)
+          (drop (at.i + 1) outs)) (replies_at answers) (mets_at answers) whole) (sym c.push_reserved.ensures.items)
           (joins_next at.entries.items entry c.args.first at.i it (drop (at.i + 1) made) (drop at.i made) outs
           c.index-outcomes-i.result at.answers.items answers whole
           (omega (arith, c.loop-i-test.true, c.requires.outcomes)) c.index-outcomes-i.is
           (drop_more made at.i it low ∙ ap (λ x. x ∷ drop (at.i + 1) made) (sym it_is)) (at.invariant.joins octets)
           (c.entry_of-entry.ensures octets));
-      short = subst AreShort (sym c.in_ok-push.ensures.items)
+      short = subst AreShort (sym c.push_reserved.ensures.items)
           (All-push IsShortEntry at.entries.items entry at.invariant.short
           ((c.entry_of-entry.ensures []).short at.invariant.still));
       still = (c.entry_of-entry.ensures []).still at.invariant.still;

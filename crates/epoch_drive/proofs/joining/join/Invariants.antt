@@ -1,4 +1,4 @@
-use Rattle.std.proofs.Common.{◌≡◌, ℕ, ◌+◌, List, length, map, drop}
+use Rattle.std.proofs.Common.{◌≡◌, ℕ, ◌+◌, List, length, map, drop, vec_capacity, vec_len}
 use Rattle.lawful_run.specs.Filling.{filled}
 use Rattle.epoch_drive.specs.Joins.{AllShort, mets_at, replies_at}
 use Rattle.epoch_drive.specs.Kept.{meaning_in}
@@ -9,6 +9,8 @@ use Rattle.epoch_drive.proofs.joining.join.Given as goal
 
 abbrev pub invariant-loop-i : goal.invariant-loop-i
 invariant-loop-i l = record {
+  room : vec_capacity l.entries ≡ length l.kept;
+  put : vec_len l.entries ≡ l.i;
   many : length l.answers.items ≡ length l.fn.answers.items;
   joins : (octets : List ℕ) → Joins l.entries.items
       (open_entries (l.first + l.i) (drop l.i (map (meaning_in octets) l.kept)) (drop l.i l.outcomes))

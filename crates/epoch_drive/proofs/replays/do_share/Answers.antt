@@ -4,8 +4,8 @@ use Rattle.epoch_drive.specs.Replays.{DoesShare}
 use Rattle.epoch_drive.proofs.Replaying.{adds_share, untouched_does}
 use Rattle.epoch_drive.proofs.replays.do_share.Goals as goal
 
-pub returns-then-is_empty-2 : goal.returns-then-is_empty-2
-returns-then-is_empty-2 c =
+pub returns-then-is_empty-2-clause-adds : goal.returns-then-is_empty-2-clause-adds
+returns-then-is_empty-2-clause-adds c =
     let told = c.add_replayed.ensures in
     let share = c.args.share.now in
     let commands : length share.commands.items ≡ 0 = search rules in
@@ -17,8 +17,8 @@ returns-then-is_empty-2 c =
     adds_share c.add_replayed.result c.args.subscriber.now c.args.subscriber.now c.args.share.now c.args.replays.now
     c.add_replayed.new.replays c.args.slot c.nothing.result does told.answers told.effects told.rows
 
-pub returns : goal.returns
-returns c =
+pub returns-clause-adds : goal.returns-clause-adds
+returns-clause-adds c =
     let told = c.add_replayed-2.ensures in
     let does : DoesShare c.args.subscriber.now c.replay.new.subscriber c.args.share.now c.in_ok-replayed.replayed =
     search rules in
