@@ -1,6 +1,7 @@
 """A fleet of 200 traces, of which some are wrong, cut, missing, refused, and one kills its worker. Its rows stay the
-same where a worker is killed, one is stopped, the driver is killed and begun again, and where a scheduler of a real
-cluster is killed; nothing is open but what was asked for, and nobody without a certificate gets in."""
+same where workers and programs are killed or stopped at any of their moments, the driver is killed and begun again, and
+where a scheduler of a real cluster is killed; nothing is open but what was asked for, and nobody without a certificate
+gets in. A fleet is taken to hang where no row comes for much longer than the undisturbed one took for all."""
 import contextlib
 import hashlib
 import os
@@ -15,13 +16,46 @@ import ssl
 import subprocess
 import sys
 import time
+from typing import Callable
 
-from .harness import ANALYSIS, Check, PEPC, SAFE, children_of, is_there, nothing_left, pepc, small_files, words_of
+from .harness import (
+    ANALYSIS,
+    Check,
+    HANG,
+    PEPC,
+    SAFE,
+    children_of,
+    is_there,
+    nothing_left,
+    parent_of,
+    pepc,
+    small_files,
+    words_of,
+)
 
 TRACES = 200
-SECONDS = 600  # at most, for one fleet
-PATIENCE = 15  # seconds with a stopped worker
+WORKER = "fleet_worker"
+PATIENCE = 5  # seconds with a stopped worker or program, at least
 WRONG, CUT, CHANGED, MISSING, REFUSED, NO_ENTRY, NO_REPORT, KILLER = 3, 17, 23, 38, 29, 33, 37, 11
+# Of some traces, at which step something is done once, and what
+ACTS = {
+    41: ("solo", "stop program"),
+    42: ("audit", "stop program"),
+    43: ("balance", "stop program"),
+    44: ("solo", "stop worker"),
+    45: ("audit", "stop worker"),
+    46: ("balance", "stop worker"),
+    47: ("solo", "kill worker"),
+    48: ("audit", "kill worker"),
+    49: ("balance", "kill worker"),
+    51: ("solo", "stop worker after 0"),
+    52: ("audit", "stop worker after 0"),
+    53: ("balance", "stop worker after 0"),
+}
+# The same at the last step's end, while the worker tells what came of the trace, and when it has told
+ENDS = {number: ("audit", f"stop worker after {200 * (number - 61)}") for number in range(61, 70)}
+# A real cluster begins no worker in place of one that is stopped
+REAL = [("audit", "stop program"), ("solo", "kill worker"), ("audit", "stop worker after 0")]
 
 
 def name_of(number: int) -> str:
@@ -78,7 +112,8 @@ def make_list(room: pathlib.Path) -> pathlib.Path:
 
 
 def make_killer(room: pathlib.Path) -> pathlib.Path:
-    """A program that is pepc, but kills its worker at a trace that begins with two fences."""
+    """A program that is pepc, but kills its worker at a trace that begins with two fences; and does what a file of
+    acts/ says of its trace and step, once."""
     program = room / "killer"
     program.write_text(
         f"""#!/bin/sh
@@ -86,6 +121,24 @@ input={room}/input.$$
 cat >"$input"
 [ "$(head -c 16 "$input")" != "0 FENCE
 0 FENCE" ] || kill -9 $PPID
+name=$(readlink /proc/$$/fd/1)
+name=${{name##*/}}
+act={room}/acts/${{name%%.*}}.$1
+if read -r what whom when number <"$act" && rm "$act"; then
+    case $what.$whom.$when in
+    stop.program.) kill -STOP $$ ;;
+    stop.worker.) kill -STOP $PPID ;;
+    kill.worker.) kill -KILL $PPID ;;
+    stop.worker.after)
+        worker=$PPID
+        {{
+            while kill -0 $$; do :; done
+            while [ "$number" -gt 0 ]; do number=$((number - 1)); done
+            kill -STOP "$worker"
+        }} </dev/null >/dev/null 2>&1 &
+        ;;
+    esac
+fi 2>/dev/null
 exec <"$input"
 rm "$input"
 exec {PEPC} "$@"
@@ -95,6 +148,26 @@ exec {PEPC} "$@"
     return program
 
 
+def give_acts(room: pathlib.Path, acts: dict[int, tuple[str, str]]) -> None:
+    """Says what is to be done."""
+    (room / "acts").mkdir(exist_ok=True)
+    for number, (step, act) in acts.items():
+        (room / "acts" / f"{name_of(number).split('/')[1]}.{step}").write_text(f"{act}\n")
+
+
+def last_of(room: pathlib.Path, out: pathlib.Path) -> list[int]:
+    """Faultless traces of a fleet that aren't done, those first that come last."""
+    faulty = {WRONG, CUT, CHANGED, MISSING, REFUSED, NO_ENTRY, NO_REPORT, KILLER}
+    done = ended_of(out)
+    found = [number for number in range(TRACES) if number % 10 and number not in faulty and name_of(number) not in done]
+    return sorted(found, key=lambda number: ((room / f"{name_of(number)}.trace").stat().st_size, -number))
+
+
+def acts_done(check: Check, what: str, room: pathlib.Path) -> None:
+    """All of it was done."""
+    check.same(f"{what}: acts left", sorted(path.name for path in (room / "acts").iterdir()), [])
+
+
 def rows_in(out: pathlib.Path) -> sqlite3.Connection:
     """The rows of a fleet, to read."""
     return sqlite3.connect(f"file:{out}/fleet.sqlite?mode=ro", uri=True)
@@ -102,6 +175,9 @@ def rows_in(out: pathlib.Path) -> sqlite3.Connection:
 
 class Driver:
     """A fleet that runs."""
+
+    # seconds without a row that are a hang, and the patience with a silent worker: the undisturbed fleet says more
+    quiet, patience = 120.0, PATIENCE
 
     def __init__(self, room: pathlib.Path, out: str, *words):
         self.out = room / out
@@ -123,31 +199,65 @@ class Driver:
         except sqlite3.Error:
             return 0
 
+    def watch(self, enough: Callable[[], bool]) -> bool:
+        """Waits until it has ended or something is so. False where it hangs."""
+        rows, came = -1, time.monotonic()
+        while self.process.poll() is None and not enough():
+            if (found := self.rows()) != rows:
+                rows, came = found, time.monotonic()
+            elif time.monotonic() - came > self.quiet:
+                return False
+            time.sleep(0.05)
+        return True
+
     def wait_for(self, rows: int) -> bool:
-        """Waits until so many traces are done."""
-        end = time.monotonic() + SECONDS
-        while self.rows() < rows and self.process.poll() is None and time.monotonic() < end:
-            time.sleep(0.1)
-        return self.process.poll() is None
+        """Waits until so many traces are done; it goes on then."""
+        return self.watch(lambda: self.rows() >= rows) and self.process.poll() is None
+
+    def children(self, word: str) -> list[int]:
+        """Processes with a word on their command line: workers, or programs of workers."""
+        return [process for process in children_of(self.process.pid) if word in words_of(process)]
 
     def workers(self) -> list[int]:
-        """Its worker processes."""
-        return [process for process in children_of(self.process.pid) if "spawn_main" in words_of(process)]
+        """Its worker processes. What a worker has just forked has its command line too, and isn't one."""
+        return [process for process in self.children(WORKER) if parent_of(process) == self.process.pid]
+
+    def signal_one(self, find: Callable[[], list[int]], number: int) -> None:
+        """Sends a signal to the first process of a kind that is found."""
+        found: list[int] = []
+
+        def sent() -> bool:
+            found.extend(find())
+            return bool(found)
+
+        if self.watch(sent) and found:
+            try:
+                os.kill(found[0], number)
+            except OSError:
+                pass  # it has ended
 
     def end(self) -> int:
         """Its status."""
-        try:
-            return self.process.wait(SECONDS)
-        except subprocess.TimeoutExpired:
-            self.process.kill()
-            return -1
+        if self.watch(lambda: False):
+            return self.process.wait()
+        self.process.kill()
+        self.process.wait()
+        return -1
+
+
+def all_gone(check: Check, what: str, processes: list[int]) -> None:
+    """None of these processes is left."""
+    end = time.monotonic() + HANG / 10
+    while any(map(is_there, processes)) and time.monotonic() < end:
+        time.sleep(0.05)
+    check.same(f"{what}: processes", [words_of(process) for process in processes if is_there(process)], [])
 
 
 def rows_of(out: pathlib.Path) -> list[tuple]:
     """The rows, but for times, memory and attempts."""
     with contextlib.closing(rows_in(out)) as base:
         return base.execute(
-            "SELECT name, octets, lines, step, step.status, said FROM trace JOIN step USING (name) " "ORDER BY 1, 4"
+            "SELECT name, octets, lines, step, step.status, said FROM trace JOIN step USING (name) ORDER BY 1, 4"
         ).fetchall()
 
 
@@ -251,9 +361,8 @@ def listeners_of(process: int) -> list[tuple[str, int]]:
 def answer_of(port: int, context: ssl.SSLContext | None) -> str:
     """What a listener answers to a request of HTTP, plainly or by TLS: its first line, or why it talks to nobody."""
     try:
-        with socket.create_connection(("127.0.0.1", port), 5) as plain:
+        with socket.create_connection(("127.0.0.1", port), HANG / 10) as plain:
             talk = context.wrap_socket(plain) if context else plain
-            talk.settimeout(3)
             talk.sendall(b"GET /info/main/workers.html HTTP/1.0\r\n\r\n")
             return talk.recv(4096).split(b"\r\n")[0].decode("latin-1") or "nothing"
     except ssl.SSLError as why:
@@ -291,12 +400,16 @@ def look_at_listeners(check: Check, what: str, processes: list[int], foreign: pa
     check.holds(f"{what}: {guarded} listeners ask for a certificate", guarded >= 2)
 
 
-def embedded(check: Check, room: pathlib.Path, foreign: pathlib.Path) -> list[tuple]:
-    """The undisturbed run, whose rows all others must have; nothing is done twice."""
+def undisturbed(check: Check, room: pathlib.Path) -> list[tuple]:
+    """The undisturbed run, whose rows all others must have; nothing is done twice, and nothing listens."""
+    begun = time.monotonic()
     driver = Driver(room, "calm", "--workers", 3)
     driver.wait_for(TRACES // 20)
-    look_at_listeners(check, "embedded cluster", [driver.process.pid], foreign)
+    check.same("fleet: listeners", listeners_of(driver.process.pid), [])
     check.same("fleet: status", driver.end(), 1)
+    took = time.monotonic() - begun
+    Driver.patience = max(PATIENCE, int(took / 4))
+    Driver.quiet = 30 + 2 * took + 4 * Driver.patience
     rows = rows_of(driver.out)
     wanted_rows(check, rows)
     nothing_left(check, "fleet", driver.out)
@@ -320,41 +433,59 @@ def embedded(check: Check, room: pathlib.Path, foreign: pathlib.Path) -> list[tu
 
 
 def disturbed(check: Check, room: pathlib.Path, wanted: list[tuple]) -> None:
-    """A worker killed, the driver killed and begun again, and then a worker stopped."""
-    driver = Driver(room, "rough", "--workers", 3)
-    if check.holds("rough fleet: it runs", driver.wait_for(TRACES // 10)):
-        os.kill(driver.workers()[0], signal.SIGKILL)
-    if check.holds("rough fleet: it goes on without a worker", driver.wait_for(TRACES * 3 // 10)):
-        below = children_of(driver.process.pid)
-        driver.process.kill()
-        driver.process.wait()
-        end = time.monotonic() + 60
-        while any(map(is_there, below)) and time.monotonic() < end:
-            time.sleep(0.05)
-        check.same(
-            "rough fleet: processes that outlive their driver",
-            [words_of(process) for process in below if is_there(process)],
-            [],
-        )
+    """Workers stopped and killed at their begin and their work, programs stopped; the driver killed beside a stopped
+    worker, and begun again."""
+    give_acts(room, ACTS)
+    driver = Driver(room, "rough", "--workers", 3, "--patience", Driver.patience)
+    driver.signal_one(driver.workers, signal.SIGSTOP)
+    if check.holds("rough fleet: it goes on beside a worker that never began", driver.wait_for(TRACES // 10)):
+        driver.signal_one(driver.workers, signal.SIGKILL)
+        check.holds("rough fleet: it goes on without a worker", driver.wait_for(TRACES * 3 // 10))
+        driver.signal_one(driver.workers, signal.SIGSTOP)
+    below = children_of(driver.process.pid)
+    driver.process.kill()
+    driver.process.wait()
+    all_gone(check, "rough fleet without its driver", below)
     done = driver.rows()
     check.holds(f"rough fleet: {done} traces stand when the driver was killed", TRACES * 3 // 10 <= done < TRACES)
-    again = Driver(room, "rough", "--workers", 3, "--patience", PATIENCE)
-    if check.holds("rough fleet: it goes on from there", again.wait_for(TRACES // 2)):
-        below = children_of(again.process.pid)
-        stopped = again.workers()[-1]
-        os.kill(stopped, signal.SIGSTOP)
-    check.same("rough fleet: status beside a stopped worker", again.end(), 1)
-    time.sleep(0.5)
-    check.same(
-        "rough fleet: processes that are left", [words_of(process) for process in below if is_there(process)], []
-    )
-    check.same("rough fleet: rows", rows_of(again.out), wanted)
+    again = Driver(room, "rough", "--workers", 3, "--patience", Driver.patience)
+    again.signal_one(again.workers, signal.SIGKILL)
+    again.signal_one(lambda: again.children("/analysis/tables"), signal.SIGSTOP)
+    ends_well(check, "rough fleet", room, again, wanted)
     check.same("rough fleet: files", outputs_of(again.out), outputs_of(room / "calm"))
-    nothing_left(check, "rough fleet", again.out)
+
+
+def disturbed_ends(check: Check, room: pathlib.Path, wanted: list[tuple]) -> None:
+    """Workers stopped about when they tell what came of a trace."""
+    give_acts(room, ENDS)
+    driver = Driver(room, "ends", "--workers", 3, "--patience", Driver.patience, "--steps", "solo,audit,why")
+    ends_well(check, "fleet with disturbed ends", room, driver, without_tables(wanted))
+
+
+def without_tables(rows: list[tuple]) -> list[tuple]:
+    """The rows of a fleet with the steps solo, audit and why."""
+    return [row for row in rows if row[3] not in ("balance", "tables")]
+
+
+def ends_well(check: Check, what: str, room: pathlib.Path, driver: Driver, wanted: list[tuple]) -> None:
+    """A disturbed fleet ends with the rows of the undisturbed one, and leaves nothing."""
+    below: set[int] = set()
+
+    def seen() -> bool:
+        below.update(children_of(driver.process.pid))
+        return False
+
+    driver.watch(seen)
+    check.same(f"{what}: status", driver.end(), 1)
+    all_gone(check, what, sorted(below))
+    check.same(f"{what}: rows", rows_of(driver.out), wanted)
+    nothing_left(check, what, driver.out)
+    acts_done(check, what, room)
 
 
 def interrupted(check: Check, room: pathlib.Path) -> None:
-    """A signal: status 130, a line, and nobody left; a second fleet in the same OUT is refused."""
+    """A signal beside a stopped worker: status 130, a line, and nobody left; a second fleet in the same OUT is
+    refused."""
     driver = Driver(room, "stopped", "--workers", 2)
     if check.holds("stopped fleet: it runs", driver.wait_for(5)):
         check.command(
@@ -365,15 +496,15 @@ def interrupted(check: Check, room: pathlib.Path) -> None:
             env=SAFE,
         )
         below = children_of(driver.process.pid)
+        driver.signal_one(driver.workers, signal.SIGSTOP)
         driver.process.send_signal(signal.SIGINT)
         check.same("stopped fleet: status", driver.end(), 130)
-        time.sleep(0.5)
-        check.same("stopped fleet: processes", [words_of(process) for process in below if is_there(process)], [])
+        all_gone(check, "stopped fleet", below)
         check.holds("stopped fleet: its line", driver.said.read_text().endswith("fleet: stopped\n"))
 
 
 class Cluster:
-    """A scheduler and two workers, as an operator starts them."""
+    """A scheduler and two workers, as an operator starts them; the workers are registered."""
 
     def __init__(self, room: pathlib.Path, tls: pathlib.Path):
         with socket.socket() as free:
@@ -389,10 +520,11 @@ class Cluster:
         env |= {
             "DASK_DISTRIBUTED__SCHEDULER__ALLOWED_FAILURES": "0",
             "DASK_DISTRIBUTED__SCHEDULER__WORK_STEALING": "False",
+            "DASK_DISTRIBUTED__SCHEDULER__WORKER_TTL": f"{Driver.patience}s",
             "DASK_DISTRIBUTED__COMM__REQUIRE_ENCRYPTION": "True",
         }
         self.processes = []
-        self.said = open(room / "cluster.said", "ab")
+        self.said = open(room / f"cluster-{self.port}.said", "w+b")
         self.start(
             ["/usr/bin/dask-scheduler", "--host=127.0.0.1", f"--port={self.port}", "--protocol=tls", *shared],
             room,
@@ -407,12 +539,15 @@ class Cluster:
                     "--nthreads=1",
                     "--memory-limit=0",
                     f"--local-directory={room}/worker{number}",
-                    "--death-timeout=60",
+                    f"--death-timeout={HANG}",
                     *shared,
                 ],
                 room,
                 env,
             )
+        end = time.monotonic() + HANG
+        while pathlib.Path(self.said.name).read_bytes().count(b"Registered to") < 2 and time.monotonic() < end:
+            time.sleep(0.1)
 
     def start(self, words: list[str], room: pathlib.Path, env: dict) -> None:
         """Starts one program of the cluster."""
@@ -433,8 +568,8 @@ class Cluster:
 
 
 def real(check: Check, room: pathlib.Path, wanted: list[tuple], tls: pathlib.Path, foreign: pathlib.Path) -> None:
-    """A real cluster: its scheduler killed, and begun again."""
-    words = ["--steps", "solo,audit,why", "--tls", tls, "--scheduler"]
+    """A real cluster: its scheduler killed, and begun again; a worker and programs disturbed."""
+    words = ["--steps", "solo,audit,why", "--patience", Driver.patience, "--tls", tls, "--scheduler"]
     cluster = Cluster(room, tls)
     try:
         driver = Driver(room, "real", *words, f"tls://127.0.0.1:{cluster.port}")
@@ -453,8 +588,6 @@ def real(check: Check, room: pathlib.Path, wanted: list[tuple], tls: pathlib.Pat
         cluster.end()
     cluster = Cluster(room, tls)
     try:
-        again = Driver(room, "real", *words, f"tls://127.0.0.1:{cluster.port}")
-        again.wait_for(done + TRACES // 10)
         look_at_listeners(check, "real cluster", [process.pid for process in cluster.processes], foreign)
         check.command(
             "a fleet with a foreign certificate",
@@ -472,10 +605,9 @@ def real(check: Check, room: pathlib.Path, wanted: list[tuple], tls: pathlib.Pat
             3,
             env=SAFE,
         )
-        check.same("real cluster: status", again.end(), 1)
-        check.same(
-            "real cluster: rows", rows_of(again.out), [row for row in wanted if row[3] not in ("balance", "tables")]
-        )
+        give_acts(room, dict(zip(last_of(room, driver.out), REAL)))
+        again = Driver(room, "real", *words, f"tls://127.0.0.1:{cluster.port}")
+        ends_well(check, "real cluster", room, again, without_tables(wanted))
     finally:
         cluster.end()
 
@@ -584,10 +716,10 @@ def memory(check: Check) -> None:
     fleet.out = {}
     hosts = {"one": Host(4, 2 * need), "two": Host(1, need // 2)}
     check.same("a trace goes where it fits", fleet.place_of(need, {"one": hosts["one"]}), "one")
-    fleet.out = {key: Out(job, "one", need, 1) for key in "ab"}
+    fleet.out = {key: Out(job, "one", need, 1, 0.0) for key in "ab"}
     check.same("a third one doesn't fit", fleet.place_of(need, {"one": hosts["one"]}), None)
     check.same("a trace that fits nowhere has a machine for itself", fleet.place_of(need, hosts), "two")
-    fleet.out["c"] = Out(job, "two", need, 1)
+    fleet.out["c"] = Out(job, "two", need, 1, 0.0)
     check.same("and nothing beside it", fleet.place_of(1, {"two": hosts["two"]}), None)
 
 
@@ -646,9 +778,10 @@ def run(check: Check) -> None:
     def told(what: str) -> None:
         print(f"  {what}: {time.monotonic() - begun:.0f} s", file=sys.stdout, flush=True)
 
-    rows = embedded(check, room, room / "foreign")
+    rows = undisturbed(check, room)
     told("undisturbed")
     disturbed(check, room, rows)
+    disturbed_ends(check, room, rows)
     told("disturbed")
     real(check, room, rows, room / "tls", room / "foreign")
     told("real cluster")

@@ -10,6 +10,7 @@ TOP = pathlib.Path(__file__).resolve().parents[2]
 ANALYSIS = TOP / "analysis"
 PEPC = TOP / "crates/pepc_main/out/pepc_main"
 DEMO = ANALYSIS / "demo.trace"
+HANG = 600  # seconds: no command takes so long, on a slow machine either
 
 
 class Pair(NamedTuple):
@@ -44,9 +45,8 @@ class Check:
         """A command of analysis/ ends with this status, and says this line on standard error where one is wanted; it
         never shows a traceback. Gives its output."""
         words = [str(ANALYSIS / words[0]), *map(str, words[1:])]
-        ran = subprocess.run(
-            words, stdin=subprocess.DEVNULL, stdout=subprocess.PIPE, stderr=subprocess.PIPE, text=True, **more
-        )
+        more = {"timeout": HANG, "stdin": subprocess.DEVNULL, **more}
+        ran = subprocess.run(words, stdout=subprocess.PIPE, stderr=subprocess.PIPE, text=True, **more)
         self.same(f"{what}: status", ran.returncode, status)
         self.holds(f"{what}: no traceback, but {ran.stderr[:400]!r}", "Traceback" not in ran.stderr)
         if said is not None:
@@ -126,6 +126,14 @@ def children_of(process: int) -> list[int]:
         found += children
         waiting += children
     return found
+
+
+def parent_of(process: int) -> int:
+    """Who started a process; 0 where it isn't there."""
+    try:
+        return int(pathlib.Path(f"/proc/{process}/stat").read_text().rsplit(")", 1)[1].split()[1])
+    except OSError:
+        return 0
 
 
 def is_there(process: int) -> bool:

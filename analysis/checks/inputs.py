@@ -1,4 +1,5 @@
 """Bad input of the commands for one trace: each a line and a status, and nothing left."""
+import os
 import signal
 import sqlite3
 import subprocess
@@ -161,16 +162,19 @@ def full_and_stopped(check: Check, folder) -> None:
         ["tables", pair.trace, pair.report, "/dev/shm/none/x", "--csv", folder],
         4,
     )
+    # a trace that doesn't come to its end, so that the signal comes in the midst
+    endless = check.room / "endless"
+    os.mkfifo(endless)
     for number in (signal.SIGTERM, signal.SIGINT):
-        running = subprocess.Popen(
-            [ANALYSIS / "tables", pair.trace, pair.report, out], stderr=subprocess.PIPE, text=True
-        )
-        while running.poll() is None and not list(folder.glob("big.sqlite.*")):
-            time.sleep(0.005)
-        running.send_signal(number)
-        check.same(
-            f"tables stopped by signal {number}", (running.wait(), running.stderr.read()), (130, "tables: stopped\n")
-        )
+        running = subprocess.Popen([ANALYSIS / "tables", endless, pair.report, out], stderr=subprocess.PIPE, text=True)
+        with open(endless, "wb") as trace:
+            trace.write(pair.trace.read_bytes()[:1_000_000])
+            trace.flush()
+            while running.poll() is None and not list(folder.glob("big.sqlite.*")):
+                time.sleep(0.005)
+            running.send_signal(number)
+            told = (running.wait(), running.stderr.read())
+        check.same(f"tables stopped by signal {number}", told, (130, "tables: stopped\n"))
     check.holds("nothing of them is left", not list(folder.glob("big*")))
 
 

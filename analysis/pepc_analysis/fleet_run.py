@@ -1,16 +1,17 @@
 """Hands traces out to workers, and keeps their rows as they come back."""
 import os
-import queue
 import time
 from typing import NamedTuple
 
 from . import fleet_task
 from .faults import Fault, READ_FAULT
-from .fleet_cluster import Host, Hosts
+from .fleet_cluster import Cluster, Host, NOT_BEGUN
+from .fleet_pool import Pool
 from .fleet_progress import Progress
 from .fleet_rows import Job, Rows
 
 ATTEMPTS = 3
+SPARED = 30  # how often at most a trace isn't blamed for a worker that died before it began
 MEGA = 1_000_000
 
 
@@ -24,6 +25,7 @@ class Plan(NamedTuple):
     setup: list[str]
     slices: str
     limit: int
+    patience: int
 
 
 class Out(NamedTuple):
@@ -33,6 +35,7 @@ class Out(NamedTuple):
     host: str
     need: int
     attempts: int
+    begun: float
 
 
 def need_of(job: Job, steps: list[str]) -> int:
@@ -50,15 +53,13 @@ def need_of(job: Job, steps: list[str]) -> int:
 class Fleet:
     """The traces that wait, those that are out, and where."""
 
-    def __init__(self, client, rows: Rows, plan: Plan, jobs: list[Job], memory: int | None, alone: int | None):
-        self.client, self.rows, self.plan = client, rows, plan
+    def __init__(self, cluster: Pool | Cluster, rows: Rows, plan: Plan, jobs: list[Job], alone: int | None):
+        self.cluster, self.rows, self.plan = cluster, rows, plan
         self.alone, self.seen = alone, time.monotonic()  # seconds without a worker at most, and when there was one
-        self.hosts = Hosts(client, memory)
         self.waiting = sorted(jobs, key=lambda job: job.octets or 0, reverse=True)  # the longest first
         self.tries: dict[str, int] = {}
+        self.spared: dict[str, int] = {}
         self.out: dict[str, Out] = {}
-        self.futures: dict = {}
-        self.back: queue.Queue = queue.Queue()
         self.progress = Progress(len(jobs), sum(job.octets or 0 for job in jobs))
 
     def place_of(self, need: int, hosts: dict[str, Host]) -> str | None:
@@ -74,7 +75,7 @@ class Fleet:
 
     def hand_out(self) -> None:
         """Gives out what fits; of those that wait the first that does."""
-        hosts = self.hosts.now()
+        hosts = self.cluster.hosts()
         placed = True
         while self.waiting and placed:
             placed = False
@@ -83,79 +84,59 @@ class Fleet:
                 host = self.place_of(need, hosts)
                 if host is not None:
                     del self.waiting[number]
-                    self.submit(job, host, need, hosts)
+                    self.submit(job, host, need)
                     placed = True
                     break
 
-    def submit(self, job: Job, host: str, need: int, hosts: dict[str, Host]) -> None:
+    def submit(self, job: Job, host: str, need: int) -> None:
         """Gives a trace to a machine."""
-        attempt = self.tries[job.listed.name] = self.tries.get(job.listed.name, 0) + 1
-        plan = self.plan
+        name, plan = job.listed.name, self.plan
+        self.tries[name] = self.tries.get(name, 0) + 1
         words = {
             "trace": job.listed.path,
             "report": job.listed.report,
             "expected": job.listed.expected,
-            "out": os.path.join(plan.out, job.listed.name),
+            "out": os.path.join(plan.out, name),
             "program": plan.program,
             "tables": plan.tables,
             "steps": plan.steps,
             "setup": plan.setup,
             "slices": plan.slices,
             "limit": plan.limit,
+            "patience": plan.patience,
         }
-        future = self.client.submit(
-            fleet_task.run_trace,
-            words,
-            pure=False,
-            key=f"{job.listed.name} {attempt} {id(words)}",
-            workers=None if len(hosts) == 1 else [host],
-        )
-        self.out[future.key] = Out(job, host, need, attempt)
-        self.futures[future.key] = future
-        future.add_done_callback(self.back.put)
+        self.out[name] = Out(job, host, need, self.tries[name], time.monotonic())
+        self.cluster.submit(name, words, host)
 
     def recall(self) -> None:
-        """Traces of machines that went away wait again."""
-        hosts = self.hosts.now()
-        for key, out in list(self.out.items()):
-            if hosts and out.host not in hosts and not self.futures[key].done():
-                future = self.futures.pop(key)
-                del self.out[key]
-                self.client.cancel([future])
-                self.waiting.insert(0, out.job)
+        """Traces that take longer than their steps may are done again: what has them answers, and does nothing."""
+        most = self.plan.limit * (len(self.plan.steps) + 1) + self.plan.patience
+        for name, out in list(self.out.items()):
+            if time.monotonic() - out.begun > most:
+                self.cluster.drop(name)
+                self.take(name, None)
 
-    def take(self, future) -> None:
-        """What came of a trace that was handed out."""
-        from concurrent.futures import CancelledError
-        from distributed.scheduler import KilledWorker
-
-        out = self.out.pop(future.key, None)
-        self.futures.pop(future.key, None)
-        if out is None:
-            return  # recalled
-        job = out.job
-        try:
-            told = future.result()
-        except KilledWorker:
-            if out.attempts < ATTEMPTS:
-                self.waiting.insert(0, job)
-                return
-            told = self.nothing("lost", f"its worker died, {out.attempts} times")
-        except (CancelledError, OSError):
-            raise Fault(READ_FAULT, "the scheduler is lost; the same command goes on from here") from None
-        except Exception as why:  # whatever a worker's Python makes of the task
-            told = self.nothing("fault", f"{type(why).__name__}: {why}"[: fleet_task.SAID])
-        self.rows.keep(job, ",".join(self.plan.steps), told["rows"], told["lines"], out.attempts, told["host"])
-        self.progress.count([row["status"] for row in told["rows"]], told["lines"], job.octets or 0)
-
-    @staticmethod
-    def nothing(status: str, said: str) -> dict:
-        """The row of a trace of which nothing is known."""
-        return {"rows": [fleet_task.row("run", status, said)], "lines": 0, "host": "-"}
+    def take(self, name: str, told: dict | None) -> None:
+        """What came of a trace that was handed out; none where its worker died."""
+        out = self.out.pop(name)
+        if told is NOT_BEGUN and self.spared.get(name, 0) < SPARED:
+            self.spared[name] = self.spared.get(name, 0) + 1
+            self.tries[name] -= 1
+            self.waiting.insert(0, out.job)
+            return
+        again = told["again"] if told else "its worker died"
+        if again and out.attempts < ATTEMPTS:
+            self.waiting.insert(0, out.job)
+            return
+        if again:
+            said = f"{again}, {out.attempts} times"
+            told = {"rows": [fleet_task.row("run", "lost", said)], "lines": 0, "host": "-"}
+        self.rows.keep(out.job, ",".join(self.plan.steps), told["rows"], told["lines"], out.attempts, told["host"])
+        self.progress.count([row["status"] for row in told["rows"]], told["lines"], out.job.octets or 0)
 
     def look_for_workers(self) -> None:
-        """An embedded cluster whose workers don't begin anew is given up."""
-        if self.hosts.workers:
+        """Workers of this machine that don't begin are given up."""
+        if self.cluster.workers:
             self.seen = time.monotonic()
         elif self.alone and time.monotonic() - self.seen > self.alone:
             raise Fault(READ_FAULT, f"no worker for {self.alone} s; the same command goes on from here")
@@ -163,19 +144,10 @@ class Fleet:
     def run(self) -> None:
         """Hands all out, and takes all back."""
         while self.waiting or self.out:
-            if self.client.status != "running":
-                raise Fault(READ_FAULT, "the scheduler is lost; the same command goes on from here")
-            try:
-                self.hand_out()
-                self.recall()
-                self.look_for_workers()
-            except OSError:
-                raise Fault(READ_FAULT, "the scheduler is lost; the same command goes on from here") from None
-            try:
-                self.take(self.back.get(timeout=0.5))
-                while True:
-                    self.take(self.back.get_nowait())
-            except queue.Empty:
-                pass
-            self.progress.tell(self.hosts.workers)
-        self.progress.tell(self.hosts.workers, last=True)
+            self.hand_out()
+            for name, told in self.cluster.back():
+                self.take(name, told)
+            self.recall()
+            self.look_for_workers()
+            self.progress.tell(self.cluster.workers)
+        self.progress.tell(self.cluster.workers, last=True)

@@ -1,7 +1,8 @@
 """What a worker does for one trace: its steps, each a process of its own.
 
 The module is sent to the workers by value, so that they need nothing of this project but Python; it takes and gives
-plain values alone. Nothing that a trace, a report or a program does raises: it becomes the row of its step."""
+plain values alone. Nothing that a trace, a report or a program does raises: it becomes the row of its step, and where a
+program stood stopped the trace is to be done again."""
 import hashlib
 import os
 import socket
@@ -26,17 +27,21 @@ def free_memory():
         return next(int(line.split()[1]) * 1024 for line in told if line.startswith("MemAvailable"))
 
 
-def most_memory(pid, program):
-    """The most octets that a process held so far, or 0 where it isn't this program yet, or any more."""
+def looked(pid, program):
+    """Octets of memory that a process held at most so far, 0 where it isn't this program yet, or any more; and whether
+    it is stopped."""
     try:
         with open(f"/proc/{pid}/cmdline", "rb") as told:
             words = told.read().split(b"\0")
-        if words[0] == b"setpriv" or program.encode() not in words:
-            return 0
         with open(f"/proc/{pid}/status") as told:
-            return next((int(line.split()[1]) * 1024 for line in told if line.startswith("VmHWM")), 0)
+            status = dict(line.split(":", 1) for line in told)
     except OSError:
-        return 0
+        return 0, False
+    mine = words[0] != b"setpriv" and program.encode() in words
+    return (
+        int(status["VmHWM"].split()[0]) * 1024 if mine and "VmHWM" in status else 0,
+        status["State"].split()[0] == "T",
+    )
 
 
 def line_of(octets):
@@ -44,14 +49,43 @@ def line_of(octets):
     return octets[:SAID].decode("utf-8", "replace").strip().split("\n")[0]
 
 
-class Feeder(threading.Thread):
-    """Writes files and octets into a program, a newline behind each, and looks at its memory."""
+class Stopped(Exception):
+    """A program that stood stopped for too long: nothing is known of its trace."""
 
-    def __init__(self, process, program, pieces):
+
+class Watcher(threading.Thread):
+    """Looks at a program's memory, and kills it where it takes too long or stands stopped for too long."""
+
+    def __init__(self, process, program, limit, patience):
         super().__init__(daemon=True)
-        self.process, self.program, self.pieces = process, program, pieces
-        self.memory = self.lines = 0
+        self.process, self.program, self.limit, self.patience = process, program, limit, patience
+        self.memory, self.late, self.stopped = 0, False, False
         self.ended = threading.Event()
+
+    def run(self):
+        begun = went = time.monotonic()
+        while not self.ended.wait(SAMPLED):
+            now = time.monotonic()
+            went = went if self.look() else now
+            self.late, self.stopped = now - begun > self.limit, now - went > self.patience
+            if self.late or self.stopped:
+                self.process.kill()
+                return
+
+    def look(self):
+        """Looks at the program, and tells whether it is stopped."""
+        memory, stopped = looked(self.process.pid, self.program)
+        self.memory = max(self.memory, memory)
+        return stopped
+
+
+class Feeder(threading.Thread):
+    """Writes files and octets into a program, a newline behind each."""
+
+    def __init__(self, process, pieces, watcher):
+        super().__init__(daemon=True)
+        self.process, self.pieces, self.watcher = process, pieces, watcher
+        self.lines = 0
 
     def run(self):
         try:
@@ -60,13 +94,7 @@ class Feeder(threading.Thread):
                     self.feed(pipe, piece)
         except OSError:
             pass  # the program ended before: its status tells
-        self.sample()
-        while not self.ended.wait(SAMPLED):
-            self.sample()
-
-    def sample(self):
-        """Looks at the program's memory."""
-        self.memory = max(self.memory, most_memory(self.process.pid, self.program))
+        self.watcher.look()
 
     def feed(self, pipe, piece):
         """One piece."""
@@ -79,13 +107,13 @@ class Feeder(threading.Thread):
                 pipe.write(octets)
                 self.lines += octets.count(b"\n")
                 last = octets[-1:]
-                self.sample()
+                self.watcher.look()
         if last != b"\n":
             pipe.write(b"\n")
             self.lines += 1
 
 
-def run_step(step, words, pieces, out, limit):
+def run_step(step, words, pieces, out, job):
     """Runs one program. Its output goes to a file that gets its name when the program has ended. Gives the row, and
     how many lines were fed."""
     begun = time.monotonic()
@@ -96,32 +124,36 @@ def run_step(step, words, pieces, out, limit):
             process = subprocess.Popen(
                 ["setpriv", "--pdeathsig", "KILL", "--", *words], stdin=subprocess.PIPE, stdout=sink, stderr=errors
             )
-            late = threading.Timer(limit, process.kill)
-            late.start()
-            feeder = Feeder(process, words[0], pieces)
+            watcher = Watcher(process, words[0], job["limit"], job["patience"])
+            watcher.start()
+            feeder = Feeder(process, pieces, watcher)
             feeder.start()
             process.wait()
-            in_time = late.is_alive()
-            late.cancel()
-            feeder.ended.set()
+            watcher.ended.set()
+            watcher.join()
             feeder.join()
             errors.seek(0)
             said = line_of(errors.read(SAID))
-        os.replace(new, out)
+        if watcher.stopped:
+            os.unlink(new)
+        else:
+            os.replace(new, out)
     except OSError as why:
         try:
             os.unlink(new)
         except OSError:
             pass
         return row(step, "fault", str(why), time.monotonic() - begun), 0
+    if watcher.stopped:
+        raise Stopped(f"{step} stood stopped for {job['patience']} s")
     ended = (
         str(process.returncode)
         if process.returncode >= 0
-        else f"signal {-process.returncode}"
-        if in_time
         else "timeout"
+        if watcher.late
+        else f"signal {-process.returncode}"
     )
-    return row(step, ended, said, time.monotonic() - begun, feeder.memory), feeder.lines
+    return row(step, ended, said, time.monotonic() - begun, watcher.memory), feeder.lines
 
 
 def found(job):
@@ -155,54 +187,54 @@ def first_line(path, number):
         return ""
 
 
-def run_trace(job):
-    """All steps of one trace: its report, made or given, then what is to be known of it. Gives rows, lines and host."""
+def run_steps(job):
+    """All steps of one trace: its report, made or given, then what is to be known of it. Gives rows and lines."""
     wrong = found(job)
     if wrong:
-        return {"rows": [wrong], "lines": 0, "host": socket.gethostname()}
+        return [wrong], 0
     trace, report, out, program, steps = (job[word] for word in ("trace", "report", "out", "program", "steps"))
     rows, lines = [], 0
     try:
         os.makedirs(os.path.dirname(out), exist_ok=True)
     except OSError as why:
-        return {"rows": [row("run", "fault", str(why))], "lines": 0, "host": socket.gethostname()}
+        return [row("run", "fault", str(why))], 0
     if report is None:
         report = out + ".report"
         if "solo" in steps or not os.path.isfile(report):
-            told, lines = run_step("solo", [program, "solo"], [trace], report, job["limit"])
+            told, lines = run_step("solo", [program, "solo"], [trace], report, job)
             rows.append(told)
             if told["status"] not in ("0", "6", "7"):  # no report of all lines before the trace's stop
-                return {"rows": rows, "lines": lines, "host": socket.gethostname()}
+                return rows, lines
     both, judged = [trace, b"REPORT\n", report], "not audited"
     if "audit" in steps:
-        told, fed = run_step("audit", [program, "audit", *job["setup"]], both, out + ".audit", job["limit"])
+        told, fed = run_step("audit", [program, "audit", *job["setup"]], both, out + ".audit", job)
         rows.append(told)
         lines = lines or fed
         if told["status"] in ("0", "9"):
             judged = first_line(out + ".audit", 0)
             told["said"] = told["said"] and f"{told['said']}: {judged}"
         if told["status"] == "9" and "why" in steps:
-            why, _ = run_step("why", [program, "audit", "--why", *job["setup"]], both, out + ".why", job["limit"])
+            why, _ = run_step("why", [program, "audit", "--why", *job["setup"]], both, out + ".why", job)
             why["said"] = first_line(out + ".why", 1)
             rows.append(why)
     if "balance" in steps:
-        rows.append(
-            run_step(
-                "balance", [program, "balance", "--slices", job["slices"]], both, out + ".balanced", job["limit"]
-            )[0]
-        )
+        words = [program, "balance", "--slices", job["slices"]]
+        rows.append(run_step("balance", words, both, out + ".balanced", job)[0])
     if "tables" in steps:
-        rows.append(
-            run_step(
-                "tables",
-                [job["tables"], trace, report, out + ".sqlite", "--audit", judged],
-                [],
-                out + ".tables",
-                job["limit"],
-            )[0]
-        )
+        words = [job["tables"], trace, report, out + ".sqlite", "--audit", judged]
+        rows.append(run_step("tables", words, [], out + ".tables", job)[0])
         try:
             os.unlink(out + ".tables")  # it writes nothing on standard output
         except OSError:
             pass
-    return {"rows": rows, "lines": lines, "host": socket.gethostname()}
+    return rows, lines
+
+
+def run_trace(job):
+    """Does a trace. Gives its rows, how many lines it has, the host, and why it is to be done again, if it is."""
+    told = {"rows": [], "lines": 0, "host": socket.gethostname(), "again": ""}
+    try:
+        told["rows"], told["lines"] = run_steps(job)
+    except Stopped as why:
+        told["again"] = str(why)
+    return told
