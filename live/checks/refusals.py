@@ -5,7 +5,7 @@ import subprocess
 
 from checks.judging import Checks, audited
 from peers.lab import LIVE, Lab
-from peers.network import STRANGER
+from peers.network import MOST_SECONDS, STRANGER
 
 
 def stub(folder: pathlib.Path, name: str, text: str) -> str:
@@ -64,19 +64,19 @@ def run(checks: Checks, lab: Lab) -> None:
         ("no option of it", [gateway, "--cores"], 2, "usage"),
     ]
     for what, words, wanted, part in cases:
-        ran = lab.network.run("gw", *words, timeout=20)
+        ran = lab.network.run("gw", *words)
         checks.expect(
             f"{what}: status {wanted}",
             ran.returncode == wanted and part in ran.stderr and "Traceback" not in ran.stderr,
             f"{ran.returncode} {ran.stderr.strip()[-100:]}",
         )
     running = lab.gateway("--core", silent)
-    second = lab.network.run("gw", gateway, "--core", good, timeout=20)
+    second = lab.network.run("gw", gateway, "--core", good)
     checks.expect(
         "a second gateway: status 3", second.returncode == 3 and "can't be had" in second.stderr, second.stderr.strip()
     )
     lab.network.run("enb", str(LIVE / "peers" / "probe"), "--address", STRANGER, "2152", "00")
-    status, said = running.wait(20), running.stderr.read().strip()
+    status, said = running.wait(MOST_SECONDS), running.stderr.read().strip()
     checks.expect("a core that says nothing: status 5", status == 5 and "says nothing of line 1 for" in said, said)
     full(checks, lab)
 
@@ -93,9 +93,9 @@ def full(checks: Checks, lab: Lab) -> None:
     probe = [str(LIVE / "peers" / "probe"), "--address", STRANGER, "2152", *["1400*45"] * 30]
     lab.network.run("enb", *probe)
     said = process.stderr.read().strip()
-    checks.expect("a record that can't grow: status 6", process.wait(10) == 6 and "can't be written" in said, said)
+    checks.expect("a record that can't grow: status 6", process.wait(MOST_SECONDS) == 6 and "can't be written" in said, said)
     gateway = lab.gateway("--resume", str(record))
     lab.network.run("enb", *probe)
     gateway.terminate()
-    checks.expect("it is gone on with where there is room", gateway.wait(10) == 0)
+    checks.expect("it is gone on with where there is room", gateway.wait(MOST_SECONDS) == 0)
     audited(checks, lab, record, "it")

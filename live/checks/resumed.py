@@ -10,8 +10,8 @@ import time
 
 from checks.judging import Checks, audited, judge_frames
 from peers import wire
-from peers.lab import CAPTURE_SECONDS, Lab, attach, core_of
-from peers.network import ENODEBS, HOST
+from peers.lab import CAPTURE_SECONDS, Lab, attach, core_of, until
+from peers.network import ENODEBS, HOST, MOST_SECONDS
 
 NOTIFICATION = 176
 ACCEPTED = 16
@@ -35,9 +35,10 @@ class Resumed:
         self.idle = attach(self.mme, self.enodebs, "001010000000002", 0x2000, 0xC01)
         self.mme.do("release", to=self.idle["control"])
         self.pinging = self.lab.start(
-            "pdn", "ping", "-c", "1", "-W", "150", self.idle["address"], stdout=subprocess.PIPE
+            "pdn", "ping", "-c", "1", "-W", "900", self.idle["address"], stdout=subprocess.PIPE
         )
-        self.checks.expect("a packet is held before the kills", self.mme.do("wait", type=NOTIFICATION, seconds=5))
+        notified = self.mme.do("wait", type=NOTIFICATION, seconds=MOST_SECONDS)
+        self.checks.expect("a packet is held before the kills", notified)
         self.stream = self.lab.start(
             "enb",
             "iperf3",
@@ -46,7 +47,7 @@ class Resumed:
             "-B",
             self.busy["address"],
             "-t",
-            "120",
+            "900",
             "-b",
             "3M",
             "-J",
@@ -77,10 +78,8 @@ class Resumed:
 
     def flows(self, what: str) -> None:
         """The acknowledgements of iperf3 come down to the eNodeB."""
-        wanted, until = self.forwarded() + 100, time.monotonic() + 25
-        while self.forwarded() < wanted and time.monotonic() < until:
-            time.sleep(0.2)
-        self.checks.expect(what, self.forwarded() >= wanted)
+        wanted = self.forwarded() + 100
+        self.checks.expect(what, until(lambda: self.forwarded() >= wanted))
 
     def forwarded(self) -> int:
         return json.loads(self.enodebs.tell("counts"))["down packets"].get(self.busy["address"], 0)
@@ -93,13 +92,13 @@ class Resumed:
         self.keep("killed shell")
         self.resume()
         os.kill(core_of(self.gateway), signal.SIGKILL)
-        status, said = self.gateway.wait(10), self.gateway.stderr.read().strip()
+        status, said = self.gateway.wait(MOST_SECONDS), self.gateway.stderr.read().strip()
         is_told = status == 4 and "the core" in said
         self.checks.expect("a core that is killed ends the shell with a clear line and status 4", is_told, said)
         self.keep("killed core")
         self.resume()
         self.gateway.terminate()
-        self.checks.expect("the gateway stops with status 0", self.gateway.wait(20) == 0)
+        self.checks.expect("the gateway stops with status 0", self.gateway.wait(MOST_SECONDS) == 0)
         self.keep("gateway that stopped")
         self.resume()
         self.end()
@@ -112,11 +111,11 @@ class Resumed:
         self.checks.expect("a subscriber is still attached", answer and answer["cause"] == ACCEPTED)
         self.checks.expect(
             "the packet that was held before the kills goes down behind them",
-            "time=" in self.pinging.communicate(timeout=60)[0],
+            "time=" in self.pinging.communicate(timeout=MOST_SECONDS)[0],
         )
         time.sleep(CAPTURE_SECONDS)
         self.gateway.terminate()
-        self.checks.expect("the gateway stops with status 0", self.gateway.wait(20) == 0)
+        self.checks.expect("the gateway stops with status 0", self.gateway.wait(MOST_SECONDS) == 0)
         self.lab.end(self.captures[0])
         said = audited(self.checks, self.lab, self.record, "the joined record")
         self.checks.expect("the joined record is whole", said == "yes\n", said)

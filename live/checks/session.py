@@ -10,7 +10,7 @@ import time
 
 from checks.judging import Checks, audited, judge_frames, judge_wire
 from peers.lab import CAPTURE_SECONDS, LIVE, Lab, attach
-from peers.network import ENODEBS, HOST, MMES, STRANGER
+from peers.network import ENODEBS, HOST, MMES, MOST_SECONDS, STRANGER
 
 PAGE = 8080
 NOTIFICATION, CREATE_BEARER_REQUEST = 176, 95
@@ -89,7 +89,6 @@ class Session:
             stdout=subprocess.DEVNULL,
             stderr=subprocess.DEVNULL,
         )
-        time.sleep(0.7)
         fetched = self.lab.folder / "fetched"
         self.lab.network.run(
             "enb",
@@ -110,22 +109,22 @@ class Session:
             "curl fetches a file", fetched.exists() and fetched.read_bytes() == (folder / "file").read_bytes()
         )
         for way, words in (("up", ()), ("down", ("-R",))):
-            sent = self.lab.iperf(self.second["address"], "-t", "2", "-b", "10M", *words, seconds=30)
-            rate = sent["end"]["sum_received"]["bits_per_second"] / 1e6
-            self.checks.expect(f"iperf3 over TCP {way}", rate > 1, f"{rate:.0f} Mbit/s of 10")
+            sent = self.lab.iperf(self.second["address"], "-n", "2M", "-b", "10M", *words)
+            octets = sent["end"]["sum_received"]["bytes"]
+            self.checks.expect(f"iperf3 over TCP {way}", octets >= 1_000_000, f"{octets} octets of 2 MB")
 
     def bearer(self) -> None:
         """A bearer with a filter for UDP is asked for, accepted, and takes what iperf3 sends down, octet for octet."""
         self.tell(f"BEARER {self.first['imsi']} 7 50000 50000 0 0 213009023011")
-        asked = self.mmes[0].do("wait", type=CREATE_BEARER_REQUEST, seconds=5)
+        asked = self.mmes[0].do("wait", type=CREATE_BEARER_REQUEST, seconds=MOST_SECONDS)
         self.checks.expect(
             "the MME is asked for a bearer", asked and asked["teid"] == 0x1000 and asked["fteids"], asked
         )
         self.mmes[0].do(
             "accept", to=self.first["control"], seq=asked["seq"], ebi=6, enodeb=ENODEBS[0], enodeb_teid=0xB02
         )
-        time.sleep(0.2)
-        sent = self.lab.iperf(self.first["address"], "-u", "-R", "-b", "4M", "-l", "1000", "-t", "2", seconds=30)
+        self.mmes[0].do("echo")  # its answer comes behind what is done with the acceptance
+        sent = self.lab.iperf(self.first["address"], "-u", "-R", "-b", "4M", "-l", "1000", "-k", "1000")
         self.streamed = sent["end"]["sum"]["packets"] * (1000 + UDP_HEAD)
         self.checks.expect(
             "iperf3 over UDP comes down that bearer", sent["end"]["sum"]["packets"] > 500, sent["end"]["sum"]["packets"]
@@ -141,12 +140,12 @@ class Session:
         )
 
         def run() -> None:
-            # once more where a busy machine let the stream stand still
+            # again where a busy machine let the stream stand still
             is_met, told = False, ""
-            for _ in range(2):
+            for _ in range(5):
                 try:
                     words = ("-u", "-b", "2M", "-l", "1000", "-t", "10")
-                    stream = self.lab.iperf(self.second["address"], *words, seconds=40)
+                    stream = self.lab.iperf(self.second["address"], *words)
                     received = stream["end"]["sum_received"]["bytes"]
                 except (subprocess.SubprocessError, ValueError, KeyError) as fault:
                     # (an exception would end the thread, and this check with it)
@@ -165,8 +164,8 @@ class Session:
     def idle(self) -> None:
         """A ping to an idle subscriber is held, notified, and answered when the path is back."""
         self.mmes[0].do("release", to=self.first["control"])
-        pinging = self.lab.start("pdn", "ping", "-c", "1", "-W", "10", self.first["address"], stdout=subprocess.PIPE)
-        notified = self.mmes[0].do("wait", type=NOTIFICATION, seconds=5)
+        pinging = self.lab.start("pdn", "ping", "-c", "1", "-W", "90", self.first["address"], stdout=subprocess.PIPE)
+        notified = self.mmes[0].do("wait", type=NOTIFICATION, seconds=MOST_SECONDS)
         self.checks.expect(
             "the MME is notified of a held packet",
             notified and notified["teid"] == 0x1000 and notified["ebi"] == [5],
@@ -175,7 +174,7 @@ class Session:
         self.mmes[0].do("acknowledge", to=self.first["control"], seq=notified["seq"] if notified else 0)
         time.sleep(0.5)
         self.modify(ENODEBS[0], 0xB01)
-        answer = pinging.communicate(timeout=15)[0]
+        answer = pinging.communicate(timeout=MOST_SECONDS)[0]
         late = re.search(r"time=([\d.]+) ms", answer)
         self.checks.expect("the ping that was held is answered", late and float(late[1]) >= 500, late and late[0])
 
@@ -255,7 +254,7 @@ class Session:
         time.sleep(CAPTURE_SECONDS)
         self.gateway.terminate()
         said = self.gateway.stdout.read().strip()
-        self.checks.expect("the gateway stops with status 0", self.gateway.wait(20) == 0, said)
+        self.checks.expect("the gateway stops with status 0", self.gateway.wait(MOST_SECONDS) == 0, said)
         for capture in self.captures:
             self.lab.end(capture)
         report = (self.record / "report").read_bytes()

@@ -6,8 +6,8 @@ import time
 
 from checks.judging import Checks, audited
 from peers import wire
-from peers.lab import CAPTURE_SECONDS, LIVE, Lab
-from peers.network import STRANGER
+from peers.lab import CAPTURE_SECONDS, LIVE, Lab, until
+from peers.network import MOST_SECONDS, STRANGER
 
 PAGE = 8080
 
@@ -29,7 +29,7 @@ def run(checks: Checks, lab: Lab) -> None:
     lab.network.run("gw", "ping", "-c", "1", "-W", "1", "-s", "65507", "10.45.0.2")
     checks.expect(
         "a packet of 65,535 octets is told, and is too long for UDP",
-        counts()["S1U"].get("lost EMSGSIZE") == 1,
+        until(lambda: counts()["S1U"].get("lost EMSGSIZE") == 1),
         counts()["S1U"],
     )
     flood = [str(LIVE / "peers" / "flood"), "down", "--size", "1400", "--rate", "5000", "--seconds", "2"]
@@ -60,8 +60,8 @@ def run(checks: Checks, lab: Lab) -> None:
             "limit",
             "50000000",
         )
-        time.sleep(1)
-        checks.expect("and they go when it has room", counts()["S1U"]["waiting now"] == 0, counts()["S1U"])
+        is_empty = until(lambda: counts()["S1U"]["waiting now"] == 0)
+        checks.expect("and they go when it has room", is_empty, counts()["S1U"])
     lab.network.do(lab.network.names["gw"], "ip", "link", "set", "pepc0", "down")
     lab.network.run(
         "enb",
@@ -71,12 +71,11 @@ def run(checks: Checks, lab: Lab) -> None:
         "2152",
         "30ff001400000011" + "450000140000000040110000" + "0a2d0002cb007109",
     )
-    checks.expect(
-        "a TUN device that is down loses a packet by name", counts()["SGI"].get("lost EIO") == 1, counts()["SGI"]
-    )
+    is_lost = until(lambda: counts()["SGI"].get("lost EIO") == 1)
+    checks.expect("a TUN device that is down loses a packet by name", is_lost, counts()["SGI"])
     time.sleep(CAPTURE_SECONDS)
     gateway.terminate()
-    checks.expect("the gateway stops with status 0", gateway.wait(20) == 0)
+    checks.expect("the gateway stops with status 0", gateway.wait(MOST_SECONDS) == 0)
     for dump in dumps:
         lab.end(dump)
     audited(checks, lab, record, "it")

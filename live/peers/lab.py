@@ -6,14 +6,24 @@ import signal
 import subprocess
 import tempfile
 import time
-from typing import Any
+from typing import Any, Callable
 
-from peers.network import ENODEBS, GATEWAY, HOST, MMES, Network
+from peers.network import ENODEBS, GATEWAY, HOST, MMES, MOST_SECONDS, Network
 
 HERE = pathlib.Path(__file__).resolve().parent
 LIVE = HERE.parent
 CAPTURE_SECONDS = 1.3  # in which a capture takes over what passed
 UP_INTERFACE = 1  # S1-U GTP-U of a serving gateway (TS 29.274, 8.22)
+
+
+def until(is_so: Callable[[], bool]) -> bool:
+    """Waits until something is so, and tells whether it came to be."""
+    end = time.monotonic() + MOST_SECONDS
+    while not is_so():
+        if time.monotonic() > end:
+            return False
+        time.sleep(0.1)
+    return True
 
 
 class Peer:
@@ -127,13 +137,11 @@ class Lab:
     def host(self) -> None:
         """iperf3 on the internet's host."""
         self.start("pdn", "iperf3", "-s", "-B", HOST, stdout=subprocess.DEVNULL, stderr=subprocess.DEVNULL)
-        time.sleep(0.3)
+        until(lambda: f"{HOST}:5201" in self.network.run("pdn", "ss", "-Hltn").stdout)
 
-    def iperf(self, address: str, *words: str, seconds: float) -> dict[str, Any]:
+    def iperf(self, address: str, *words: str) -> dict[str, Any]:
         """iperf3 from a UE, and what it tells in JSON. Octets drawn at random look like any protocol to tshark."""
-        ran = self.network.run(
-            "enb", "iperf3", "-c", HOST, "-B", address, "-J", "--repeating-payload", *words, timeout=seconds
-        )
+        ran = self.network.run("enb", "iperf3", "-c", HOST, "-B", address, "-J", "--repeating-payload", *words)
         return json.loads(ran.stdout)
 
 

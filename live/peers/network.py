@@ -11,7 +11,7 @@ GATEWAY, ENODEBS, MMES = "192.0.2.1", ("192.0.2.2", "192.0.2.3"), ("192.0.2.4", 
 STRANGER = "192.0.2.6"  # sends what no peer should
 GATEWAY_SGI, HOST, NOBODY = "203.0.113.1", "203.0.113.9", "203.0.113.77"
 SUBSCRIBERS = "10.45.0.0/16"
-MOST_SECONDS = 40.0  # of a command
+MOST_SECONDS = 120.0  # of a command, on a machine however slow
 DEBIAN_PYTHON = "/usr/bin/python3"  # it alone has Debian's scapy
 
 COMMANDS = {
