@@ -136,9 +136,16 @@ def run_rt(words: list[str], folder: pathlib.Path, temporary: pathlib.Path,
     """Runs rt in a folder, with temporary files in another, and gives its status. `look` is called each second."""
     if not shutil.which("rt"):
         fail("the program isn't proved and built here, and rt, which does it, isn't found")
-    die = lambda: libc.prctl(DEATH_SIGNAL, signal.SIGTERM)
-    worker = subprocess.Popen(["rt", *words], cwd=folder, env={**os.environ, "TMPDIR": str(temporary)}, preexec_fn=die, **streams)
+
+    def begin() -> None:
+        libc.prctl(DEATH_SIGNAL, signal.SIGTERM)
+        signal.pthread_sigmask(signal.SIG_UNBLOCK, CUTTING)
+
+    # (a signal that comes while rt is being started is seen once it can be ended)
+    signal.pthread_sigmask(signal.SIG_BLOCK, CUTTING)
+    worker = subprocess.Popen(["rt", *words], cwd=folder, env={**os.environ, "TMPDIR": str(temporary)}, preexec_fn=begin, **streams)
     try:
+        signal.pthread_sigmask(signal.SIG_UNBLOCK, CUTTING)
         while worker.poll() is None:
             time.sleep(0.1)
             look(worker.pid)
