@@ -179,12 +179,12 @@ class Driver:
     # seconds without a row that are a hang, and the patience with a silent worker: the undisturbed fleet says more
     quiet, patience = 120.0, PATIENCE
 
-    def __init__(self, room: pathlib.Path, out: str, *words):
+    def __init__(self, room: pathlib.Path, out: str, *words, listed: str = "list"):
         self.out = room / out
         self.said = room / f"{out}.said"
         with open(self.said, "ab") as said:
             self.process = subprocess.Popen(
-                [ANALYSIS / "fleet", room / "list", self.out, "--program", room / "killer", *map(str, words)],
+                [ANALYSIS / "fleet", room / listed, self.out, "--program", room / "killer", *map(str, words)],
                 stdin=subprocess.DEVNULL,
                 stdout=said,
                 stderr=said,
@@ -483,6 +483,45 @@ def ends_well(check: Check, what: str, room: pathlib.Path, driver: Driver, wante
     acts_done(check, what, room)
 
 
+def along(check: Check, room: pathlib.Path, wanted: list[tuple]) -> None:
+    """Traces that are larger than the memory are audited epoch by epoch, and have the rows of the undisturbed fleet.
+    What makes their pieces may be stopped; where it makes none, that is told."""
+    made = pepc(["make", "--seed", "5", "--subs", "4", "--lines", "60"]).splitlines(keepends=True)
+    many, told = b"", b""
+    for number, line in enumerate(made, 1):
+        many += line
+        if number % 10 == 0:
+            many += line.split(b" ")[0] + b" FENCE\n"
+            told += b"lawful %d %d\n" % (number // 10, number + number // 10)
+    lines = len(many.splitlines())
+    if not many.endswith(b" FENCE\n"):
+        told += b"lawful %d %d\n" % (told.count(b"\n") + 1, lines)
+    for name, text in (("many", many), ("marked", made[0] + b"TRACE\n")):
+        (room / f"{name}.trace").write_bytes(text)
+    names = {name_of(number) for number in (1, 10, WRONG, REFUSED, NO_ENTRY)}
+    rows = [line for line in (room / "list").read_text().splitlines() if line.split(".trace\t")[0] in names]
+    rows += [f"{name}.trace\t{(room / f'{name}.trace').stat().st_size}" for name in ("many", "marked")]
+    (room / "few").write_text("\n".join(rows) + "\n")
+    words = ["--workers", 2, "--memory", 1, "--patience", Driver.patience, "--steps", "solo,audit,why"]
+    driver = Driver(room, "along", *words, listed="few")
+    driver.signal_one(lambda: driver.children("examples/along"), signal.SIGSTOP)
+    check.same("fleet in pieces: status", driver.end(), 1)
+    found = rows_of(driver.out)
+    usual = [row for row in found if row[0] in names]
+    check.same("fleet in pieces: rows", usual, [row for row in without_tables(wanted) if row[0] in names])
+    check.same("fleet in pieces: what an audit says", (driver.out / "many.audit").read_bytes(), told + b"yes\n")
+    check.same("fleet in pieces: lines", {row[2] for row in found if row[0] == "many"}, {lines})
+    check.same(
+        "a trace of which there are no pieces",
+        [row[3:] for row in found if row[0] == "marked"],
+        [
+            ("audit", "fault", f"examples/along: {room}/marked.trace: line 2 is TRACE"),
+            ("solo", "6", "pepc: bad line"),
+        ],
+    )
+    nothing_left(check, "fleet in pieces", driver.out)
+
+
 def interrupted(check: Check, room: pathlib.Path) -> None:
     """A signal beside a stopped worker: status 130, a line, and nobody left; a second fleet in the same OUT is
     refused."""
@@ -707,12 +746,26 @@ def memory(check: Check) -> None:
     from pepc_analysis.fleet_cluster import Host
     from pepc_analysis.fleet_list import Listed
     from pepc_analysis.fleet_rows import Job
-    from pepc_analysis.fleet_run import Fleet, Out, need_of
+    from pepc_analysis.fleet_run import Fleet, Out, Plan, need_of
 
     job = Job(Listed("a", "a", "1", None), 100_000_000, None, "")
     need = need_of(job, ["audit"])
     check.holds(f"need of an audit of 100 MB: {need}", 300_000_000 < need < 600_000_000)
+    check.same("its need in pieces", need_of(job, ["audit"], True), need)
+    day = job._replace(octets=100_000_000_000)
+    check.holds("need of a day's audit in pieces", need < need_of(day, ["audit"], True) < 1_000_000_000)
+    check.same("need of what is read whole", need_of(day, ["audit", "balance"], True), need_of(day, ["balance"]))
     fleet = Fleet.__new__(Fleet)
+    for steps, memory, wanted in (
+        (["solo", "audit"], [2 * need, need], False),
+        (["solo", "audit"], [need // 2, need - 1], True),
+        (["solo", "balance"], [need // 2], False),
+        (["audit"], [0], False),
+        (["audit"], [0, need // 2], True),
+    ):
+        fleet.plan = Plan("", "", "", "", steps, [], "", 1, 1)
+        hosts = {str(at): Host(1, octets) for at, octets in enumerate(memory)}
+        check.same(f"{steps} of {memory} in pieces", fleet.along_of(job, hosts), wanted)
     fleet.out = {}
     hosts = {"one": Host(4, 2 * need), "two": Host(1, need // 2)}
     check.same("a trace goes where it fits", fleet.place_of(need, {"one": hosts["one"]}), "one")
@@ -785,6 +838,8 @@ def run(check: Check) -> None:
     told("disturbed")
     real(check, room, rows, room / "tls", room / "foreign")
     told("real cluster")
+    along(check, room, rows)
+    told("pieces")
     interrupted(check, room)
     on_a_terminal(check, room)
     words(check, room, room / "tls")

@@ -13,6 +13,7 @@ from .fleet_rows import Job, Rows
 ATTEMPTS = 3
 SPARED = 30  # how often at most a trace isn't blamed for a worker that died before it began
 MEGA = 1_000_000
+PIECES = 500 * MEGA  # an epoch, two more that are read ahead, and all subscribers
 
 
 class Plan(NamedTuple):
@@ -20,6 +21,7 @@ class Plan(NamedTuple):
 
     out: str
     program: str
+    along: str
     tables: str
     steps: list[str]
     setup: list[str]
@@ -38,15 +40,18 @@ class Out(NamedTuple):
     begun: float
 
 
-def need_of(job: Job, steps: list[str]) -> int:
+def need_of(job: Job, steps: list[str], along: bool = False) -> int:
     """Octets of memory that the steps of a trace take at most, by the size of its files."""
     trace = job.octets or 0
     report = job.report_octets if job.report_octets is not None else trace * 11 // 10
     need = 32 * MEGA
     if "tables" in steps:
         need = 200 * MEGA if trace > 20 * MEGA else 80 * MEGA
-    if "audit" in steps or "balance" in steps:  # they take their input whole
-        need = max(need, 32 * MEGA + 2 * (trace + report))
+    whole = 32 * MEGA + 2 * (trace + report)
+    if "audit" in steps:
+        need = max(need, min(whole, PIECES) if along else whole)
+    if "balance" in steps:
+        need = max(need, whole)
     return need
 
 
@@ -73,6 +78,11 @@ class Fleet:
                 best = (free, name)
         return best and best[1]
 
+    def along_of(self, job: Job, hosts: dict[str, Host]) -> bool:
+        """Whether a trace is audited epoch by epoch, as it is larger than any machine."""
+        most = max((host.memory for host in hosts.values()), default=0)  # 0: none has told yet
+        return "audit" in self.plan.steps and 0 < most < need_of(job, ["audit"])
+
     def hand_out(self) -> None:
         """Gives out what fits; of those that wait the first that does."""
         hosts = self.cluster.hosts()
@@ -80,15 +90,16 @@ class Fleet:
         while self.waiting and placed:
             placed = False
             for number, job in enumerate(self.waiting[:64]):
-                need = need_of(job, self.plan.steps)
+                along = self.along_of(job, hosts)
+                need = need_of(job, self.plan.steps, along)
                 host = self.place_of(need, hosts)
                 if host is not None:
                     del self.waiting[number]
-                    self.submit(job, host, need)
+                    self.submit(job, host, need, along)
                     placed = True
                     break
 
-    def submit(self, job: Job, host: str, need: int) -> None:
+    def submit(self, job: Job, host: str, need: int, along: bool) -> None:
         """Gives a trace to a machine."""
         name, plan = job.listed.name, self.plan
         self.tries[name] = self.tries.get(name, 0) + 1
@@ -98,6 +109,7 @@ class Fleet:
             "expected": job.listed.expected,
             "out": os.path.join(plan.out, name),
             "program": plan.program,
+            "along": plan.along if along else None,
             "tables": plan.tables,
             "steps": plan.steps,
             "setup": plan.setup,

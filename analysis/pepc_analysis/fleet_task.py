@@ -53,12 +53,24 @@ class Stopped(Exception):
     """A program that stood stopped for too long: nothing is known of its trace."""
 
 
+def started(words, **files):
+    """A program. pdeathsig: where the worker dies it dies too, and writes no more."""
+    return subprocess.Popen(["setpriv", "--pdeathsig", "KILL", "--", *words], **files)
+
+
+def ended_by(process, late=False):
+    """How a program ended, in words."""
+    status = process.returncode
+    return str(status) if status >= 0 else "timeout" if late else f"signal {-status}"
+
+
 class Watcher(threading.Thread):
-    """Looks at a program's memory, and kills it where it takes too long or stands stopped for too long."""
+    """Looks at a program's memory, and kills it where it takes too long, or where it or what makes its input stands
+    stopped for too long."""
 
     def __init__(self, process, program, limit, patience):
         super().__init__(daemon=True)
-        self.process, self.program, self.limit, self.patience = process, program, limit, patience
+        self.processes, self.program, self.limit, self.patience = [process], program, limit, patience
         self.memory, self.late, self.stopped = 0, False, False
         self.ended = threading.Event()
 
@@ -69,72 +81,97 @@ class Watcher(threading.Thread):
             went = went if self.look() else now
             self.late, self.stopped = now - begun > self.limit, now - went > self.patience
             if self.late or self.stopped:
-                self.process.kill()
+                for process in self.processes:
+                    process.kill()
                 return
 
     def look(self):
-        """Looks at the program, and tells whether it is stopped."""
-        memory, stopped = looked(self.process.pid, self.program)
-        self.memory = max(self.memory, memory)
-        return stopped
+        """Looks at the program, and tells whether one is stopped."""
+        seen = [looked(process.pid, self.program) for process in self.processes]
+        self.memory = max(self.memory, seen[0][0])
+        return any(stopped for _, stopped in seen)
 
 
 class Feeder(threading.Thread):
-    """Writes files and octets into a program, a newline behind each."""
+    """Writes files, octets, and what other programs write into a program, a newline behind each file. Where there is a
+    fault, the program is ended, as its input isn't whole."""
 
     def __init__(self, process, pieces, watcher):
         super().__init__(daemon=True)
         self.process, self.pieces, self.watcher = process, pieces, watcher
-        self.lines = 0
+        self.lines, self.fault = 0, ""
 
     def run(self):
         try:
             with self.process.stdin as pipe:
                 for piece in self.pieces:
                     self.feed(pipe, piece)
-        except OSError:
+        except BrokenPipeError:
             pass  # the program ended before: its status tells
+        except OSError as why:
+            self.fail(str(why))
         self.watcher.look()
 
+    def fail(self, why):
+        """A fault."""
+        self.fault = why
+        self.process.kill()
+
     def feed(self, pipe, piece):
-        """One piece."""
+        """One piece. Lines of the first one are counted."""
         if isinstance(piece, bytes):
             pipe.write(piece)
             return
-        last = b"\n"
+        if isinstance(piece, list):
+            self.feed_output(pipe, piece)
+            return
+        last, counted = b"\n", piece is self.pieces[0]
         with open(piece, "rb") as source:
             while octets := source.read(PIECE):
                 pipe.write(octets)
-                self.lines += octets.count(b"\n")
+                self.lines += counted * octets.count(b"\n")
                 last = octets[-1:]
                 self.watcher.look()
         if last != b"\n":
             pipe.write(b"\n")
-            self.lines += 1
+            self.lines += counted
+
+    def feed_output(self, pipe, words):
+        """What a program writes."""
+        with tempfile.TemporaryFile() as errors:
+            with started(words, stdin=subprocess.DEVNULL, stdout=subprocess.PIPE, stderr=errors) as maker:
+                self.watcher.processes.append(maker)
+                try:
+                    while octets := maker.stdout.read1(PIECE):
+                        pipe.write(octets)
+                    maker.wait()
+                finally:
+                    maker.kill()
+            if maker.returncode:
+                errors.seek(0)
+                self.fail(line_of(errors.read(SAID)) or f"{words[0]}: {ended_by(maker)}")
 
 
 def run_step(step, words, pieces, out, job):
     """Runs one program. Its output goes to a file that gets its name when the program has ended. Gives the row, and
-    how many lines were fed."""
+    how many lines of the first piece were fed."""
     begun = time.monotonic()
     new = f"{out}.{socket.gethostname()}.{os.getpid()}.new"
     try:
         with open(new, "wb") as sink, tempfile.TemporaryFile() as errors:
-            # pdeathsig: where the worker dies its program dies too, and writes no more
-            process = subprocess.Popen(
-                ["setpriv", "--pdeathsig", "KILL", "--", *words], stdin=subprocess.PIPE, stdout=sink, stderr=errors
-            )
+            process = started(words, stdin=subprocess.PIPE, stdout=sink, stderr=errors)
             watcher = Watcher(process, words[0], job["limit"], job["patience"])
             watcher.start()
             feeder = Feeder(process, pieces, watcher)
             feeder.start()
             process.wait()
+            feeder.join()
             watcher.ended.set()
             watcher.join()
-            feeder.join()
             errors.seek(0)
             said = line_of(errors.read(SAID))
-        if watcher.stopped:
+        is_faulty = feeder.fault and not watcher.late and not watcher.stopped
+        if watcher.stopped or is_faulty:
             os.unlink(new)
         else:
             os.replace(new, out)
@@ -146,14 +183,9 @@ def run_step(step, words, pieces, out, job):
         return row(step, "fault", str(why), time.monotonic() - begun), 0
     if watcher.stopped:
         raise Stopped(f"{step} stood stopped for {job['patience']} s")
-    ended = (
-        str(process.returncode)
-        if process.returncode >= 0
-        else "timeout"
-        if watcher.late
-        else f"signal {-process.returncode}"
-    )
-    return row(step, ended, said, time.monotonic() - begun, watcher.memory), feeder.lines
+    if is_faulty:
+        return row(step, "fault", feeder.fault, time.monotonic() - begun, watcher.memory), feeder.lines
+    return row(step, ended_by(process, watcher.late), said, time.monotonic() - begun, watcher.memory), feeder.lines
 
 
 def found(job):
@@ -178,13 +210,29 @@ def found(job):
     return None
 
 
-def first_line(path, number):
-    """A line of what a step wrote."""
+def last_lines(path):
+    """The last lines of what a step wrote."""
     try:
         with open(path, "rb") as told:
-            return line_of(b"".join(told.read(SAID).split(b"\n")[number : number + 1]))
+            told.seek(max(0, os.stat(path).st_size - PIECE))
+            return told.read().splitlines()
     except OSError:
-        return ""
+        return []
+
+
+def last_line(path):
+    """The last one: what an audit says of all that it read, and of `--why` the place."""
+    return line_of(b"".join(last_lines(path)[-1:]))
+
+
+def lines_of(path):
+    """How many lines a file has; the last one may have no newline."""
+    lines, last = 0, b"\n"
+    with open(path, "rb") as source:
+        while octets := source.read(PIECE):
+            lines += octets.count(b"\n")
+            last = octets[-1:]
+    return lines + (last != b"\n")
 
 
 def run_steps(job):
@@ -206,16 +254,19 @@ def run_steps(job):
             if told["status"] not in ("0", "6", "7"):  # no report of all lines before the trace's stop
                 return rows, lines
     both, judged = [trace, b"REPORT\n", report], "not audited"
+    # an audit of the whole, or epoch by epoch
+    audited, words = (both, []) if job["along"] is None else ([[job["along"], trace, report]], ["--along"])
     if "audit" in steps:
-        told, fed = run_step("audit", [program, "audit", *job["setup"]], both, out + ".audit", job)
+        told, fed = run_step("audit", [program, "audit", *words, *job["setup"]], audited, out + ".audit", job)
         rows.append(told)
-        lines = lines or fed
+        lines = lines or fed or lines_of(trace)
         if told["status"] in ("0", "9"):
-            judged = first_line(out + ".audit", 0)
+            judged = last_line(out + ".audit")
             told["said"] = told["said"] and f"{told['said']}: {judged}"
         if told["status"] == "9" and "why" in steps:
-            why, _ = run_step("why", [program, "audit", "--why", *job["setup"]], both, out + ".why", job)
-            why["said"] = first_line(out + ".why", 1)
+            why, _ = run_step("why", [program, "audit", "--why", *words, *job["setup"]], audited, out + ".why", job)
+            if why["status"] == "9":
+                why["said"] = last_line(out + ".why")
             rows.append(why)
     if "balance" in steps:
         words = [program, "balance", "--slices", job["slices"]]

@@ -37,6 +37,14 @@ def audited(checks: Checks, lab: Lab, record: pathlib.Path, what: str) -> str:
     return ran.stdout
 
 
+def went_along(checks: Checks, record: pathlib.Path, said: str) -> None:
+    """The audit beside the core said `yes` of each epoch of the record."""
+    trace = (record / "trace").read_bytes().splitlines()
+    epochs = sum(line.endswith(b" FENCE") for line in trace)
+    up_to = f"lawful up to epoch {epochs}, line {len(trace)}; yes"
+    checks.expect("the audit beside the core went along to its end", up_to in said, said.splitlines()[:1])
+
+
 def judge_wire(checks: Checks, report: bytes, s1: pathlib.Path, sgi: pathlib.Path, most_lost: int) -> None:
     """Each message that the report tells was sent, once, and no other; a kill may lose those that were on their way."""
     told, seen = wire.told(report), wire.seen(s1, sgi)

@@ -62,6 +62,7 @@ def run(checks: Checks, lab: Lab) -> None:
         ("no program, with instructions", [gateway, "--core", "/none", "--instructions", str(wrong)], 4, "can't be"),
         ("instructions that aren't some", [gateway, "--core", good, "--instructions", str(wrong)], 7, "line 2"),
         ("no option of it", [gateway, "--cores"], 2, "usage"),
+        ("an audit of no record", [gateway, "--core", good, "--audited"], 2, "--audited"),
     ]
     for what, words, wanted, part in cases:
         ran = lab.network.run("gw", *words)

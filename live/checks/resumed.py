@@ -8,9 +8,9 @@ import signal
 import subprocess
 import time
 
-from checks.judging import Checks, audited, judge_frames
+from checks.judging import Checks, audited, judge_frames, went_along
 from peers import wire
-from peers.lab import CAPTURE_SECONDS, Lab, attach, core_of, until
+from peers.lab import CAPTURE_SECONDS, Lab, attach, children_of, core_of, is_there, until
 from peers.network import ENODEBS, HOST, MOST_SECONDS
 
 NOTIFICATION = 176
@@ -27,7 +27,7 @@ class Resumed:
 
     def begin(self) -> None:
         """One subscriber with traffic, one idle."""
-        self.gateway = self.lab.gateway("--record", str(self.record))
+        self.gateway = self.lab.gateway("--record", str(self.record), "--audited")
         self.captures = [self.lab.capture("s1", self.s1)]
         self.lab.host()
         self.enodebs, self.mme = self.lab.enodebs(), self.lab.mme()
@@ -72,7 +72,7 @@ class Resumed:
     def resume(self) -> None:
         """Goes on with the record, and sees iperf3 go on."""
         begun = time.monotonic()
-        self.gateway = self.lab.gateway("--resume", str(self.record))
+        self.gateway = self.lab.gateway("--resume", str(self.record), "--audited")
         took = time.monotonic() - begun
         self.flows(f"iperf3 goes on behind it, {took:.1f} s after")
 
@@ -87,13 +87,16 @@ class Resumed:
     def run(self) -> None:
         self.begin()
         self.flows("iperf3 sends")
+        below = children_of(self.gateway)
         self.gateway.send_signal(signal.SIGKILL)
         self.gateway.wait()
+        is_over = until(lambda: not any(map(is_there, below)))
+        self.checks.expect("core and audit end with a shell that is killed", len(below) == 3 and is_over, below)
         self.keep("killed shell")
         self.resume()
         os.kill(core_of(self.gateway), signal.SIGKILL)
         status, said = self.gateway.wait(MOST_SECONDS), self.gateway.stderr.read().strip()
-        is_told = status == 4 and "the core" in said
+        is_told = status == 4 and "the core" in said and "the audit" not in said
         self.checks.expect("a core that is killed ends the shell with a clear line and status 4", is_told, said)
         self.keep("killed core")
         self.resume()
@@ -115,7 +118,9 @@ class Resumed:
         )
         time.sleep(CAPTURE_SECONDS)
         self.gateway.terminate()
+        told = self.gateway.stdout.read()
         self.checks.expect("the gateway stops with status 0", self.gateway.wait(MOST_SECONDS) == 0)
+        went_along(self.checks, self.record, told)
         self.lab.end(self.captures[0])
         said = audited(self.checks, self.lab, self.record, "the joined record")
         self.checks.expect("the joined record is whole", said == "yes\n", said)

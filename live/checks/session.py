@@ -8,8 +8,8 @@ import sys
 import threading
 import time
 
-from checks.judging import Checks, audited, judge_frames, judge_wire
-from peers.lab import CAPTURE_SECONDS, LIVE, Lab, attach
+from checks.judging import Checks, audited, judge_frames, judge_wire, went_along
+from peers.lab import CAPTURE_SECONDS, LIVE, Lab, attach, until
 from peers.network import ENODEBS, HOST, MMES, MOST_SECONDS, STRANGER
 
 PAGE = 8080
@@ -50,6 +50,7 @@ class Session:
             str(self.operator),
             "--page",
             str(PAGE),
+            "--audited",
             "--times",
             "--instructions",
             str(instructions),
@@ -219,12 +220,15 @@ class Session:
             self.gateway.poll() is None and ", 0% packet loss" in self.ping(self.first["address"], "-c", "1").stdout,
         )
 
+    def state(self) -> dict:
+        """What the page is told, with the last entries of a subscriber."""
+        told = self.lab.network.run("gw", "curl", "-s", f"http://127.0.0.1:{PAGE}/state.json?slot=1")
+        return json.loads(told.stdout)
+
     def page(self) -> None:
         """The page and its JSON, on the gateway's loopback alone."""
         html = self.lab.network.run("gw", "curl", "-s", f"http://127.0.0.1:{PAGE}/").stdout
-        state = json.loads(
-            self.lab.network.run("gw", "curl", "-s", f"http://127.0.0.1:{PAGE}/state.json?slot=1").stdout
-        )
+        state = self.state()
         rows = {row["slot"]: row for row in state["subscribers"]}
         self.checks.expect(
             "the page is there",
@@ -241,6 +245,11 @@ class Session:
             and state["edges"]["S1U"].get("received empty") == 1,
             {**state["notes"], **state["edges"]["S1U"]},
         )
+        is_told = until(lambda: self.state()["audit"]["epoch"] > 0)
+        state = self.state()
+        audit = state["audit"]
+        is_near = 0 < audit["line"] <= state["lines"] and not audit["said"]
+        self.checks.expect("it tells up to which epoch all was lawful", is_told and is_near, audit)
         away = self.lab.network.run("pdn", "curl", "-s", "-m", "1", f"http://203.0.113.1:{PAGE}/")
         self.checks.expect("it is on no other address", away.returncode != 0)
 
@@ -259,6 +268,7 @@ class Session:
             self.lab.end(capture)
         report = (self.record / "report").read_bytes()
         audited(self.checks, self.lab, self.record, "the session")
+        went_along(self.checks, self.record, said)
         charged = octets_charged(report, 1, 1)[1]
         # iperf3 greets with four octets more
         self.checks.expect(

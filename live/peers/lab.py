@@ -145,9 +145,22 @@ class Lab:
         return json.loads(ran.stdout)
 
 
+def children_of(gateway: subprocess.Popen) -> list[int]:
+    """The processes that a gateway began, in this order: its audit's two, its core."""
+    return [int(word) for word in pathlib.Path(f"/proc/{gateway.pid}/task/{gateway.pid}/children").read_text().split()]
+
+
+def is_there(pid: int) -> bool:
+    """Whether a process runs; one that ended and isn't waited for doesn't."""
+    try:
+        return pathlib.Path(f"/proc/{pid}/stat").read_text().rpartition(")")[2].split()[0] not in "ZX"
+    except OSError:
+        return False
+
+
 def core_of(gateway: subprocess.Popen) -> int:
     """The process of a gateway's core: the child that it began last."""
-    return int(pathlib.Path(f"/proc/{gateway.pid}/task/{gateway.pid}/children").read_text().split()[-1])
+    return children_of(gateway)[-1]
 
 
 def attach(

@@ -35,3 +35,9 @@ class InstructionFault(Fault):
     """The file of instructions has a line that is none."""
 
     status = 7
+
+
+class AuditFault(Fault):
+    """The audit beside the core can't be started."""
+
+    status = 8

@@ -8,6 +8,7 @@ import socket
 import time
 from typing import Any, Iterator
 
+from shell.audit import Audit
 from shell.core import Core
 from shell.edges import Edge
 from shell.entries import Answers, Sending
@@ -62,6 +63,7 @@ class Gateway:
     ) -> None:
         self.edges, self.answers, self.clock, self.judge, self.record = edges, answers, clock, judge, record
         self.tally = tally
+        self.audit: Audit | None = None
         self.guard = tally.lock if tally else contextlib.nullcontext()
         self.times = Times()
         self.line_count = 0
@@ -218,10 +220,18 @@ class Gateway:
             for edge in self.edges.values():
                 edge.send_waiting()
 
+    def verdict(self) -> int:
+        """The status of the audit beside the core at the record's end, 0 without one; asked to stop again, it isn't
+        waited for."""
+        self.stopping = False
+        return self.audit.finish(lambda: self.stopping) if self.audit else 0
+
     def close(self) -> None:
         """Leaves no process behind."""
         if hasattr(self, "core"):
             self.core.kill()
+        if self.audit:
+            self.audit.close()
         if self.record:
             self.record.close()
 
@@ -242,4 +252,5 @@ class Gateway:
             "lines": self.line_count,
             "unanswered": len(self.answers.awaited),
             "homeless": self.answers.homeless,
+            "audit": self.audit and self.audit.told(),
         }

@@ -110,7 +110,8 @@ impl AddressBook {
 
     /// The IMSIs that have a slot, by slot.
     pub fn imsis(&self) -> &[Imsi]
-        ensures { result.now ≡ self.now }
+        ensures value { result.now ≡ self.now }
+        ensures book { IsBook self.now }
     {
         &self.imsis
     }

@@ -9,4 +9,4 @@ mod rest;
 
 pub use deciding::decide_line;
 pub use laws::{new_one_is_at_rest, rest_goes_on, rest_leaves_room};
-pub use rest::AtRest;
+pub use rest::{AtRest, Sizes};

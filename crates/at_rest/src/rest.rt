@@ -7,15 +7,21 @@ use std::alloc::Global;
 use std::marker::Model;
 use subscriber::Subscriber;
 
-/// The gateway between two epochs. It is taken apart when an epoch begins, and made again when it ends.
-#[derive(Drop)]
-pub struct AtRest {
-    /// How many slices there are, 1 to 64.
+/// How many slices there are, and how many items wait.
+#[derive(Clone, Copy, Debug)]
+pub struct Sizes {
+    /// 1 to 64.
     pub slices: u8,
     /// The room of a slot's queues, 1 to 256.
     pub room: u32,
     /// The room of a slice's lane, 1 to 16,384.
     pub lane: u32,
+}
+
+/// The gateway between two epochs. It is taken apart when an epoch begins, and made again when it ends.
+#[derive(Drop)]
+pub struct AtRest {
+    pub sizes: Sizes,
     /// Which IMSI has which slot.
     pub book: AddressBook,
     /// By slot: as many as there are IMSIs in the book.
@@ -26,12 +32,12 @@ pub struct AtRest {
     pub latest: u64,
     /// How many tries of lines were answered Full, up to 2^64 - 1.
     pub fulls: u64,
-    pub ghost slices_few: { (1 ≤ slices) × (slices ≤ 64) },
-    pub ghost roomy: { (1 ≤ room) × (room ≤ 256) },
-    pub ghost lane_roomy: { (1 ≤ lane) × (lane ≤ 16384) },
+    pub ghost slices_few: { (1 ≤ sizes.slices) × (sizes.slices ≤ 64) },
+    pub ghost roomy: { (1 ≤ sizes.room) × (sizes.room ≤ 256) },
+    pub ghost lane_roomy: { (1 ≤ sizes.lane) × (sizes.lane ≤ 16384) },
     pub ghost as_many: { vec_len subscribers ≡ length book },
     pub ghost few: { lines ≤ 2 ^ 39 },
-    pub ghost each: { AreAtRest slices lines latest subscribers.items },
+    pub ghost each: { AreAtRest sizes.slices lines latest subscribers.items },
 }
 
 impl Model for AtRest {
@@ -40,9 +46,9 @@ impl Model for AtRest {
     ghost Value = { Rest };
 
     ghost view = { λ rest. record {
-      slices = rest.slices;
-      room = rest.room;
-      lane = rest.lane;
+      slices = rest.sizes.slices;
+      room = rest.sizes.room;
+      lane = rest.sizes.lane;
       book = rest.book;
       subscribers = rest.subscribers.items;
       lines = rest.lines;
@@ -65,9 +71,7 @@ impl AtRest {
         ensures behind { IsBehind result [] }
     {
         AtRest {
-            slices,
-            room,
-            lane,
+            sizes: Sizes { slices, room, lane },
             book: AddressBook::new(alloc),
             subscribers: Vec::new(alloc),
             lines: 0,

@@ -3,7 +3,7 @@ use Rattle.std.proofs.Common.{◌≡◌, ℕ, Bool, List, [], ◌++◌, Option, 
 use Rattle.std.specs.Io.KnownBytes.{Appends}
 use Rattle.std.proofs.KnownBytes.{Appends-nil}
 use Rattle.lawful_run.specs.Setup.{Setup}
-use Rattle.pc_outside.specs.Fronts.{AppendsPrefix}
+use Rattle.pc_outside.specs.Prefixes.{AppendsPrefix}
 use Rattle.pc_outside.specs.WhereTold.{WhereTold}
 use Rattle.pc_outside.specs.declared.writing.WriteFault.{WriteFault}
 use Rattle.pc_outside.proofs.ToldLemmas.{told_map}
@@ -54,16 +54,16 @@ told_so why setup (Some k) (Ok done) start left old new texts text finds says re
       (λ octets rest is. (is.0, (k, says_told why setup octets texts (Some k) text finds says is.1))) reached;
 }
 told_so why setup found (Err fault) start left old new texts text finds says reached whole cut = record {
-  text = cut.front;
+  text = cut.prefix;
   written = cut.appended;
   report = told_map start left (λ octets rest. Reached stopped_at.Ended octets rest texts)
-      (λ octets rest. Reports audited.WriteFault why setup octets rest cut.front)
+      (λ octets rest. Reports audited.WriteFault why setup octets rest cut.prefix)
       (λ octets rest is. (
         is.0,
         record {
           found = found;
           more = cut.rest;
-          whole = says_told why setup octets texts found (cut.front ++ cut.rest) finds
+          whole = says_told why setup octets texts found (cut.prefix ++ cut.rest) finds
               (subst (SaysFinding why setup texts found) cut.parts says) is.1;
         },
       )) reached;

@@ -20,7 +20,7 @@ use Rattle.audit_core.proofs.LineOrder.{entries_told, answers_split}
 
 module _ (setup : Setup) (slots : ℕ) where
   -- an epoch with these entries of lines
-  abbrev epoch_with : Histories → List Meaning → List LineEntry → EpochReport
+  abbrev pub epoch_with : Histories → List Meaning → List LineEntry → EpochReport
   epoch_with before now entries = record {
     lines = entries;
     effects = by_slot slots (λ slot.
@@ -29,7 +29,7 @@ module _ (setup : Setup) (slots : ℕ) where
         made_of.rows slot (before slot) (events_in (before slot) (lines_told now entries) slot));
   }
 
-  made_with : (first : ℕ) (before : Histories) (now : List Meaning) (entries : List LineEntry)
+  pub made_with : (first : ℕ) (before : Histories) (now : List Meaning) (entries : List LineEntry)
       → AnswersAll first now entries
       → made_epoch slots before (lines_told now entries) ≡ epoch_with before now entries
   made_with first before now entries answers =
@@ -39,7 +39,7 @@ module _ (setup : Setup) (slots : ℕ) where
         rows = (epoch_with before now entries).rows;
       }) (entries_told first now entries answers)
 
-  run_with : (first : ℕ) (before : Histories) (now : List Meaning) (entries : List LineEntry)
+  pub run_with : (first : ℕ) (before : Histories) (now : List Meaning) (entries : List LineEntry)
       → AnswersAll first now entries → AreNumbered before (lines_told now entries)
       → CountsAreLawful before (lines_told now entries) → AreOfTheGateway before (lines_told now entries)
       → WaitsAreLawful setup before (lines_told now entries)

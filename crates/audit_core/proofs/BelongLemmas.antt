@@ -159,19 +159,19 @@ module _ (made : List (List Meaning)) where
       ++ range_from epoch (first + 1) count (λ n low high. at n (omega (arith, low)) (omega (arith, high))) entries i)
 
 -- the lines of an epoch
-pub epoch_of_line : (front : List (List Meaning)) (now : List Meaning) (left : List (List Meaning)) (n : ℕ)
-    → length (all_lines front) + 1 ≤ n → n < length (all_lines front) + 1 + length now
-    → epoch_at (front ++ now ∷ left) n ≡ length front
+pub epoch_of_line : (prefix : List (List Meaning)) (now : List Meaning) (left : List (List Meaning)) (n : ℕ)
+    → length (all_lines prefix) + 1 ≤ n → n < length (all_lines prefix) + 1 + length now
+    → epoch_at (prefix ++ now ∷ left) n ≡ length prefix
 epoch_of_line [] now left n low high =
     ap (λ here. cond here 0 (epoch_at left (n - length now) + 1)) (le-leb n (length now) (omega (arith, high)))
-epoch_of_line (first ∷ front) now left n low high =
-    let count : length (all_lines (first ∷ front)) ≡ length first + length (all_lines front) =
-    length-append first (all_lines front) in
-    ap (λ here. cond here 0 (epoch_at (front ++ now ∷ left) (n - length first) + 1))
+epoch_of_line (first ∷ prefix) now left n low high =
+    let count : length (all_lines (first ∷ prefix)) ≡ length first + length (all_lines prefix) =
+    length-append first (all_lines prefix) in
+    ap (λ here. cond here 0 (epoch_at (prefix ++ now ∷ left) (n - length first) + 1))
     (lt-leb n (length first) (omega (arith, low, count)))
-    ∙ ap (λ k. k + 1) (epoch_of_line front now left (n - length first) (omega (arith, low, count))
+    ∙ ap (λ k. k + 1) (epoch_of_line prefix now left (n - length first) (omega (arith, low, count))
     (omega (arith, low, high, count)))
-    ∙ more (length front)
+    ∙ more (length prefix)
   where
     more : (k : ℕ) → k + 1 ≡ suc k
     more k = omega arith

@@ -20,7 +20,7 @@ use Rattle.lawful_run.specs.Setup.{Setup, solo, sliced}
 use Rattle.lawful_run.specs.Telling.{command_number, commands_told, counted, packet_number}
 use Rattle.audit_core.specs.Answers.{reply_in, verdict_in}
 use Rattle.audit_core.specs.Bounds.{IsCountBreak, LiesBetween, last_before, last_count}
-use Rattle.audit_core.specs.Fronts.{InSequence, MayStand}
+use Rattle.audit_core.specs.FirstLines.{InSequence, MayStand}
 use Rattle.audit_core.specs.Gateway.{AnswerBreak, IsGatewayBreak, SaidBreak}
 use Rattle.audit_core.specs.Meant.{share}
 use Rattle.audit_core.specs.OfSlot.{AreAnswered, CountsRise, LiesWithin, NumberOn, Within, told_of}
@@ -33,9 +33,9 @@ use Rattle.audit_core.proofs.ShareLemmas.{replies_shared, verdicts_shared}
 use Rattle.audit_core.proofs.TogetherLemmas.{counts_of_slots}
 
 -- the first of some lines that are answered
-pub answered_front : (n : ℕ) (front later : List LineTold) → AreAnswered n (front ++ later) → AreAnswered n front
-answered_front n [] later are = tt
-answered_front n (now ∷ front) later are = (are.0, answered_front (n + 1) front later are.1)
+pub answered_prefix : (n : ℕ) (prefix later : List LineTold) → AreAnswered n (prefix ++ later) → AreAnswered n prefix
+answered_prefix n [] later are = tt
+answered_prefix n (now ∷ prefix) later are = (are.0, answered_prefix (n + 1) prefix later are.1)
 
 -- each accepted command or packet of a slot tells one number
 command_told : (n slot : ℕ) (now : LineTold) (later : List LineTold) → KindOf slot now
@@ -103,83 +103,83 @@ counted_parts k (suc a) b =
     let first : suc a + b ≡ suc (a + b) = omega arith in
     ap (counted k) first ∙ ap (λ rest. k ∷ rest) (counted_parts (k + 1) a b ∙ ap (λ n. counted (k + 1) a ++ counted n b) same)
 
-front_counted : (xs ys : List ℕ) (k a b : ℕ) → length xs ≡ a → xs ++ ys ≡ counted k (a + b) → xs ≡ counted k a
-front_counted xs ys k a b many is =
+prefix_counted : (xs ys : List ℕ) (k a b : ℕ) → length xs ≡ a → xs ++ ys ≡ counted k (a + b) → xs ≡ counted k a
+prefix_counted xs ys k a b many is =
     sym (take_at xs ys a many) ∙ ap (take a) (is ∙ counted_parts k a b)
     ∙ take_at (counted k a) (counted (k + a) b) a (length_counted k a)
 
-front_numbered : (n slot commands packets : ℕ) (front later : List LineTold) → AreAnswered n (front ++ later)
-    → NumberOn slot commands packets (front ++ later) → NumberOn slot commands packets front
-front_numbered n slot commands packets front later are on =
-    let first = answered_front n front later are in
+prefix_numbered : (n slot commands packets : ℕ) (prefix later : List LineTold) → AreAnswered n (prefix ++ later)
+    → NumberOn slot commands packets (prefix ++ later) → NumberOn slot commands packets prefix
+prefix_numbered n slot commands packets prefix later are on =
+    let first = answered_prefix n prefix later are in
     record {
       of_commands =
-          front_counted (told_of command_number slot front) (told_of command_number slot later) commands
-          (length (commands_accepted slot front)) (length (commands_accepted slot later))
-          (commands_counted n slot front first)
-          (sym (filter_map-append (λ (told : LineTold). command_number slot told.entry) front later) ∙ on.of_commands
+          prefix_counted (told_of command_number slot prefix) (told_of command_number slot later) commands
+          (length (commands_accepted slot prefix)) (length (commands_accepted slot later))
+          (commands_counted n slot prefix first)
+          (sym (filter_map-append (λ (told : LineTold). command_number slot told.entry) prefix later) ∙ on.of_commands
           ∙ ap (counted commands) (simp (filter_map-append, length-append)));
       of_packets =
-          front_counted (told_of packet_number slot front) (told_of packet_number slot later) packets
-          (length (packets_accepted slot front)) (length (packets_accepted slot later))
-          (packets_counted n slot front first)
-          (sym (filter_map-append (λ (told : LineTold). packet_number slot told.entry) front later) ∙ on.of_packets
+          prefix_counted (told_of packet_number slot prefix) (told_of packet_number slot later) packets
+          (length (packets_accepted slot prefix)) (length (packets_accepted slot later))
+          (packets_counted n slot prefix first)
+          (sym (filter_map-append (λ (told : LineTold). packet_number slot told.entry) prefix later) ∙ on.of_packets
           ∙ ap (counted packets) (simp (filter_map-append, length-append)));
     }
 
 -- a line more, of lines in parts
-with_line : (lines front : List LineTold) (now : LineTold) (later : List LineTold) → lines ≡ front ++ now ∷ later
-    → lines ≡ (front ++ now ∷ []) ++ later
-with_line lines front now later is = is ∙ sym (append_assoc front (now ∷ []) later)
+with_line : (lines prefix : List LineTold) (now : LineTold) (later : List LineTold) → lines ≡ prefix ++ now ∷ later
+    → lines ≡ (prefix ++ now ∷ []) ++ later
+with_line lines prefix now later is = is ∙ sym (append_assoc prefix (now ∷ []) later)
 
 pub numbers_broken : (n : ℕ) (before : Histories) (lines : List LineTold) (found : Break) → AreAnswered n lines
     → NumberBreak before lines found → AreNumbered before lines → ⊥
 numbers_broken n before lines found are is all =
-    let parts = with_line lines is.front is.now is.first.later is.first.parts in
-    is.first.broken (λ slot. front_numbered n slot (length (commands_of (before slot))) (length (packets_of (before slot)))
-    (is.front ++ is.now ∷ []) is.first.later (subst (AreAnswered n) parts are)
+    let parts = with_line lines is.prefix is.now is.first.later is.first.parts in
+    is.first.broken (λ slot. prefix_numbered n slot (length (commands_of (before slot))) (length (packets_of (before slot)))
+    (is.prefix ++ is.now ∷ []) is.first.later (subst (AreAnswered n) parts are)
     (subst (NumberOn slot (length (commands_of (before slot))) (length (packets_of (before slot)))) parts (all slot)))
 
 -- what holds of each line holds of one of them
-each_at_line : (P : List LineTold → LineTold → List LineTold → Type 0) (before front : List LineTold) (now : LineTold)
-    (later : List LineTold) → EachFrom P before (front ++ now ∷ later) → P (before ++ front) now later
+each_at_line : (P : List LineTold → LineTold → List LineTold → Type 0) (before prefix : List LineTold) (now : LineTold)
+    (later : List LineTold) → EachFrom P before (prefix ++ now ∷ later) → P (before ++ prefix) now later
 each_at_line P before [] now later each = subst (λ b. P b now later) (sym (append-nil before)) each.0
-each_at_line P before (one ∷ front) now later each =
-    subst (λ b. P b now later) (append_assoc before (one ∷ []) front)
-    (each_at_line P (before ++ one ∷ []) front now later each.1)
+each_at_line P before (one ∷ prefix) now later each =
+    subst (λ b. P b now later) (append_assoc before (one ∷ []) prefix)
+    (each_at_line P (before ++ one ∷ []) prefix now later each.1)
 
 rises_at : (start : ℕ) (counts : List ℕ) (count : ℕ) (later : List ℕ) → Rises start (counts ++ count ∷ later)
     → last_count start counts ≤ count
 rises_at start [] count later rises = rises.0
 rises_at start (one ∷ counts) count later rises = rises_at one counts count later rises.1
 
-lies_between : (slot start : ℕ) (front : List LineTold) (now : LineTold) (later : List LineTold) (told : Option ℕ)
-    → commands_told slot now.entry ≡ told → CountsRise slot start (front ++ now ∷ later)
-    → LiesBetween slot start front now later
-lies_between slot start front now later None is rise =
+lies_between : (slot start : ℕ) (prefix : List LineTold) (now : LineTold) (later : List LineTold) (told : Option ℕ)
+    → commands_told slot now.entry ≡ told → CountsRise slot start (prefix ++ now ∷ later)
+    → LiesBetween slot start prefix now later
+lies_between slot start prefix now later None is rise =
     subst (λ o. IfSome o (λ count.
-    (max (start + command_count slot (before_last_move slot front)) (last_before slot start front) ≤ count)
-    × (count ≤ start + command_count slot (front ++ before_next_move slot later)))) (sym is) tt
-lies_between slot start front now later (Some count) is rise =
-    let within : Within slot start front later count =
-    subst (λ o. IfSome o (Within slot start front later)) is
-    (each_at_line (LiesWithin slot start) [] front now later rise.within) in
-    let told : told_of commands_told slot (front ++ now ∷ later)
-    ≡ told_of commands_told slot front ++ count ∷ told_of commands_told slot later =
-    filter_map-append (λ (t : LineTold). commands_told slot t.entry) front (now ∷ later)
-    ∙ ap (λ o. told_of commands_told slot front ++ cons_option o (told_of commands_told slot later)) is in
-    let last : last_before slot start front ≤ count =
-    rises_at start (told_of commands_told slot front) count (told_of commands_told slot later)
+    (max (start + command_count slot (before_last_move slot prefix)) (last_before slot start prefix) ≤ count)
+    × (count ≤ start + command_count slot (prefix ++ before_next_move slot later)))) (sym is) tt
+lies_between slot start prefix now later (Some count) is rise =
+    let within : Within slot start prefix later count =
+    subst (λ o. IfSome o (Within slot start prefix later)) is
+    (each_at_line (LiesWithin slot start) [] prefix now later rise.within) in
+    let told : told_of commands_told slot (prefix ++ now ∷ later)
+    ≡ told_of commands_told slot prefix ++ count ∷ told_of commands_told slot later =
+    filter_map-append (λ (t : LineTold). commands_told slot t.entry) prefix (now ∷ later)
+    ∙ ap (λ o. told_of commands_told slot prefix ++ cons_option o (told_of commands_told slot later)) is in
+    let last : last_before slot start prefix ≤ count =
+    rises_at start (told_of commands_told slot prefix) count (told_of commands_told slot later)
     (subst (Rises start) told rise.rises) in
     subst (λ o. IfSome o (λ count.
-    (max (start + command_count slot (before_last_move slot front)) (last_before slot start front) ≤ count)
-    × (count ≤ start + command_count slot (front ++ before_next_move slot later)))) (sym is)
+    (max (start + command_count slot (before_last_move slot prefix)) (last_before slot start prefix) ≤ count)
+    × (count ≤ start + command_count slot (prefix ++ before_next_move slot later)))) (sym is)
     (omega (arith, within.0, last), within.1)
 
 pub counts_broken : (before : Histories) (lines : List LineTold) (found : Break) → IsCountBreak before lines found
     → CountsAreLawful before lines → ⊥
 counts_broken before lines found is all =
-    is.first.broken (lies_between is.slot (count_before before is.slot) is.first.front is.first.now is.first.later
+    is.first.broken (lies_between is.slot (count_before before is.slot) is.first.prefix is.first.now is.first.later
     (commands_told is.slot is.first.now.entry) refl
     (subst (CountsRise is.slot (count_before before is.slot)) is.first.parts (all is.slot)))
 
@@ -188,11 +188,11 @@ said_broken : {X : Type 0} (tell : LineTold → Option X) (due : LineEntry → O
     (made : List X) (lines : List LineTold) (found : Break) → SaidBreak tell due slot made lines found
     → filter_map tell lines ≡ made → ⊥
 said_broken tell due slot made lines found (inl first) same =
-    let told : filter_map tell lines ≡ filter_map tell first.front ++ first.said ∷ filter_map tell first.later =
-    ap (filter_map tell) first.parts ∙ filter_map-append tell first.front (first.now ∷ first.later)
-    ∙ ap (λ o. filter_map tell first.front ++ cons_option o (filter_map tell first.later)) first.says in
+    let told : filter_map tell lines ≡ filter_map tell first.prefix ++ first.said ∷ filter_map tell first.later =
+    ap (filter_map tell) first.parts ∙ filter_map-append tell first.prefix (first.now ∷ first.later)
+    ∙ ap (λ o. filter_map tell first.prefix ++ cons_option o (filter_map tell first.later)) first.says in
     let left : first.left ≡ first.said ∷ filter_map tell first.later =
-    append_cancel_left (filter_map tell first.front) first.left (first.said ∷ filter_map tell first.later)
+    append_cancel_left (filter_map tell first.prefix) first.left (first.said ∷ filter_map tell first.later)
     (first.holds ∙ sym same ∙ told) in
     first.broken (ap first_of left)
 said_broken tell due slot made lines found (inr few) same =
@@ -214,12 +214,12 @@ gateway_broken n before lines found are is all =
         (sym (verdicts_shared n slot lines are) ∙ all.verdicts slot)
 
 -- what doesn't speak of the lines behind holds of the first lines
-each_front : (P : List LineTold → LineTold → List LineTold → Type 0)
+each_prefix : (P : List LineTold → LineTold → List LineTold → Type 0)
     → ((before : List LineTold) (now : LineTold) (later other : List LineTold) → P before now later → P before now other)
-    → (before front later : List LineTold) → EachFrom P before (front ++ later) → EachFrom P before front
-each_front P free before [] later each = tt
-each_front P free before (now ∷ front) later each =
-    (free before now (front ++ later) front each.0, each_front P free (before ++ now ∷ []) front later each.1)
+    → (before prefix later : List LineTold) → EachFrom P before (prefix ++ later) → EachFrom P before prefix
+each_prefix P free before [] later each = tt
+each_prefix P free before (now ∷ prefix) later each =
+    (free before now (prefix ++ later) prefix each.0, each_prefix P free (before ++ now ∷ []) prefix later each.1)
 
 meets_free : (histories : Histories) (before : List LineTold) (entry : LineEntry) (later instead : List LineTold)
     → MeetsAs solo histories before entry later → MeetsAs solo histories before entry instead
@@ -228,24 +228,24 @@ meets_free histories before (line.C own) later instead meets = tt
 meets_free histories before (line.P own) later instead meets = meets
 meets_free histories before (line.F own) later instead meets = tt
 
-sequence_front : (setup : Setup) (histories : Histories) (front later : List LineTold)
-    → EachFrom (MeetsBounds setup histories) [] (front ++ later) → InSequence setup histories front
-sequence_front solo histories front later each =
-    each_front (MeetsBounds solo histories)
-    (λ before now later other meets. meets_free histories before now.entry later other meets) [] front later each
-sequence_front (sliced slices room lane) histories front later each = tt
+sequence_prefix : (setup : Setup) (histories : Histories) (prefix later : List LineTold)
+    → EachFrom (MeetsBounds setup histories) [] (prefix ++ later) → InSequence setup histories prefix
+sequence_prefix solo histories prefix later each =
+    each_prefix (MeetsBounds solo histories)
+    (λ before now later other meets. meets_free histories before now.entry later other meets) [] prefix later each
+sequence_prefix (sliced slices room lane) histories prefix later each = tt
 
 pub waits_broken : (setup : Setup) (before : Histories) (lines : List LineTold) (found : Break)
     → WaitBreak setup before lines found → WaitsAreLawful setup before lines → ⊥
 waits_broken setup before lines found is all =
-    let parts = with_line lines is.front is.now is.first.later is.first.parts in
-    let front = is.front ++ is.now ∷ [] in
+    let parts = with_line lines is.prefix is.now is.first.later is.first.parts in
+    let prefix = is.prefix ++ is.now ∷ [] in
     is.first.broken (record {
-      refusals = each_front (RefusedWhereFull setup) (λ b n l o holds. holds) [] front is.first.later
+      refusals = each_prefix (RefusedWhereFull setup) (λ b n l o holds. holds) [] prefix is.first.later
           (subst (EachFrom (RefusedWhereFull setup) []) parts all.refusals);
-      parking = each_front ParkedBehindMoves (λ b n l o holds. holds) [] front is.first.later
+      parking = each_prefix ParkedBehindMoves (λ b n l o holds. holds) [] prefix is.first.later
           (subst (EachFrom ParkedBehindMoves []) parts all.parking);
-      sequence = sequence_front setup before front is.first.later
+      sequence = sequence_prefix setup before prefix is.first.later
           (subst (EachFrom (MeetsBounds setup before) []) parts all.counts);
     })
 

@@ -21,7 +21,7 @@ use Rattle.audit_core.proofs.Differing.{differ}
 use Rattle.audit_core.proofs.EachLemmas.{each_at}
 
 -- answers behind others
-rest_answers : (n : ℕ) (answered left : List Meaning) (answers rest : List LineEntry) → AnswersAll n answered answers
+pub rest_answers : (n : ℕ) (answered left : List Meaning) (answers rest : List LineEntry) → AnswersAll n answered answers
     → AnswersAll n (answered ++ left) (answers ++ rest)
     → AnswersAll (n + length answered) left rest
 rest_answers n [] left [] rest each all =
@@ -32,7 +32,7 @@ rest_answers n (now ∷ answered) left (entry ∷ answers) rest each all =
     let number : n + 1 + length answered ≡ n + suc (length answered) = omega arith in
     subst (λ k. AnswersAll k left rest) number (rest_answers (n + 1) answered left answers rest each.1 all.1)
 
-not_left : (n : ℕ) (left : List Meaning) (rest : List LineEntry) → Stops n left rest → (left ≡ [] → rest ≡ [] → ⊥)
+pub not_left : (n : ℕ) (left : List Meaning) (rest : List LineEntry) → Stops n left rest → (left ≡ [] → rest ≡ [] → ⊥)
     → AnswersAll n left rest → ⊥
 not_left n [] [] stops some all = some refl refl
 not_left n [] (entry ∷ rest) stops some all = all
@@ -54,7 +54,7 @@ unanswered_broken made entries told is holds =
 epoch_broken : (P : Histories → List LineTold → Type 0) (B : Histories → List LineTold → Break → Type 0)
     (epochs : List (List LineTold)) (told : Break) → EpochBreak P B epochs told → EachEpoch P no_events epochs → ⊥
 epoch_broken P B epochs told is each =
-    is.first.broken (each_at P no_events is.front is.lines is.first.later
+    is.first.broken (each_at P no_events is.prefix is.lines is.first.later
     (subst (EachEpoch P no_events) is.first.parts each))
 
 -- the last sentence

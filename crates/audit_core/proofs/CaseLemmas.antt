@@ -97,7 +97,7 @@ settled_moment : (moment slot slice : ℕ) (text : List ℕ) (test : Bool)
 settled_moment moment slot slice text true = tt
 settled_moment moment slot slice text false = tt
 
-its_moment : (slices moment : ℕ) (before : List Line) (book : List (List ℕ)) (others : List Decision) (made : Decision)
+pub its_moment : (slices moment : ℕ) (before : List Line) (book : List (List ℕ)) (others : List Decision) (made : Decision)
     → HasMoment moment made → HasItsMoment moment (settled_by slices before (meant slices book others made))
 its_moment slices moment before book others (decision.Command whose asks) has = tt
 its_moment slices moment before book others (decision.Packet at lent) has = has
@@ -105,7 +105,7 @@ its_moment slices moment before book others (decision.Move at slice) has =
     settled_moment moment at slice _ (slice == destination_after slices at before)
 its_moment slices moment before book others (decision.Note text) has = tt
 
-late_from : (slices latest : ℕ) (before lines : List Line) (noted : List Meaning)
+pub late_from : (slices latest : ℕ) (before lines : List Line) (noted : List Meaning)
     → ((moment : ℕ) → ComeLater moment noted) → AreLater latest lines
     → ComeLater latest (meant_from slices before lines ++ noted)
 late_from slices latest before [] noted quiet later = quiet latest
@@ -116,7 +116,7 @@ late_from slices latest before (line ∷ lines) noted quiet later =
     (decided slices (book_of before) line) (moment_decided slices (book_of before) line))
     later.0 (late_from slices line.moment (before ++ line ∷ []) lines noted quiet later.1)
 
-noted_quiet : (stop : Option BadAt) (moment : ℕ) → ComeLater moment (stop_noted (stop_of stop))
+pub noted_quiet : (stop : Option BadAt) (moment : ℕ) → ComeLater moment (stop_noted (stop_of stop))
 noted_quiet None moment = tt
 noted_quiet (Some at) moment = (omega arith, tt)
 
@@ -144,7 +144,7 @@ booked_few book (admission digits asks full) few =
     admitted_few (is_some (slot_in book digits)) (nat_lt (length book) 65533) book digits refl few
 booked_few book (of whom wish missing) few = few
 
-book_few : (book : List (List ℕ)) (lines : List Line) → length book ≤ 65533 → length (fold book_after book lines) ≤ 65533
+pub book_few : (book : List (List ℕ)) (lines : List Line) → length book ≤ 65533 → length (fold book_after book lines) ≤ 65533
 book_few book [] few = few
 book_few book (line ∷ lines) few = book_few (book_after book line) lines (booked_few book (asked line) few)
 

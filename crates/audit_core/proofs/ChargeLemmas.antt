@@ -26,19 +26,19 @@ from_none : (n : ℕ) → 0 + n ≡ n
 from_none n = omega arith
 
 -- an item stands among those of its slot
-stands_there : {X : Type 0} (whose : X → ℕ) (front : List X) (item : X) (later : List X)
-    → of_slot whose (whose item) (front ++ item ∷ later) ≡ [] → ⊥
+stands_there : {X : Type 0} (whose : X → ℕ) (prefix : List X) (item : X) (later : List X)
+    → of_slot whose (whose item) (prefix ++ item ∷ later) ≡ [] → ⊥
 stands_there whose [] item later none =
     let rest = of_slot whose (whose item) later in
     let here : item ∷ rest ≡ [] =
     sym (ap (λ own. cond own (item ∷ rest) rest) (eq-eqb (whose item) (whose item) refl)) ∙ none in
     cc
-stands_there whose (first ∷ front) item later none =
-    by_slot (whose first == whose item) (stands_there whose front item later) none
+stands_there whose (first ∷ prefix) item later none =
+    by_slot (whose first == whose item) (stands_there whose prefix item later) none
   where
-    by_slot : (own : Bool) → (of_slot whose (whose item) (front ++ item ∷ later) ≡ [] → ⊥)
-        → cond own (first ∷ of_slot whose (whose item) (front ++ item ∷ later))
-        (of_slot whose (whose item) (front ++ item ∷ later)) ≡ [] → ⊥
+    by_slot : (own : Bool) → (of_slot whose (whose item) (prefix ++ item ∷ later) ≡ [] → ⊥)
+        → cond own (first ∷ of_slot whose (whose item) (prefix ++ item ∷ later))
+        (of_slot whose (whose item) (prefix ++ item ∷ later)) ≡ [] → ⊥
     by_slot true behind is = cc
     by_slot false behind is = behind is
 
@@ -51,7 +51,7 @@ item_broken whose as_entry slots told made found by (inl past) agree =
     let at : slots + (slot - slots) ≡ slot = omega (arith, first.beyond) in
     let none : of_slot whose slot made ≡ [] =
     subst (λ k. of_slot whose k made ≡ []) at (beyond whose slots made by (slot - slots)) in
-    stands_there whose first.front past.item first.later
+    stands_there whose first.prefix past.item first.later
     (subst (λ xs. of_slot whose slot xs ≡ []) first.parts (agree slot ∙ none))
 item_broken whose as_entry slots told made found by (inr differs) agree =
     differ (in_slot_order whose slots told) made differs.1.stands differs.1.due differs.1.first
@@ -64,19 +64,19 @@ module _ {X : Type 0} (whose : X → ℕ) (as_entry : X → Entry) (slots : ℕ)
     (others : (epoch : ℕ) (now : EpochReport) (epochs : List EpochReport) → Are epoch (now ∷ epochs)
     → Are (epoch + 1) epochs)
     (past : (epochs : List EpochReport) → Are 0 epochs → (later : ℕ) → told (length epochs + later) ≡ []) where
-  agree_at : (epoch : ℕ) (front : List EpochReport) (now : EpochReport) (later : List EpochReport)
-      → Are epoch (front ++ now ∷ later)
-      → AgreeBySlot whose (told (epoch + length front)) (made now)
+  agree_at : (epoch : ℕ) (prefix : List EpochReport) (now : EpochReport) (later : List EpochReport)
+      → Are epoch (prefix ++ now ∷ later)
+      → AgreeBySlot whose (told (epoch + length prefix)) (made now)
   agree_at epoch [] now later are =
       let at : epoch ≡ epoch + 0 = omega arith in
       subst (λ k. AgreeBySlot whose (told k) (made now)) at (first epoch now later are)
-  agree_at epoch (one ∷ front) now later are =
-      let at : epoch + 1 + length front ≡ epoch + suc (length front) = omega arith in
+  agree_at epoch (one ∷ prefix) now later are =
+      let at : epoch + 1 + length prefix ≡ epoch + suc (length prefix) = omega arith in
       subst (λ k. AgreeBySlot whose (told k) (made now)) at
-      (agree_at (epoch + 1) front now later (others epoch one (front ++ now ∷ later) are))
+      (agree_at (epoch + 1) prefix now later (others epoch one (prefix ++ now ∷ later) are))
 
   pub epochs_broken : (epochs : List EpochReport) (found : Break)
-      → ((front later : List EpochReport) (now : EpochReport) → epochs ≡ front ++ now ∷ later
+      → ((prefix later : List EpochReport) (now : EpochReport) → epochs ≡ prefix ++ now ∷ later
       → AreBySlot whose slots (made now))
       → EpochsBreak whose as_entry slots told made epochs found → Are 0 epochs → ⊥
   epochs_broken epochs found by (inl gone) are =
@@ -85,53 +85,53 @@ module _ {X : Type 0} (whose : X → ℕ) (as_entry : X → Entry) (slots : ℕ)
       sym gone.stands ∙ subst (λ k. told k ≡ []) at (past epochs are 0) in
       cc
   epochs_broken epochs found by (inr differs) are =
-      item_broken whose as_entry slots (told (length differs.front)) (made differs.now) found
-      (by differs.front differs.later differs.now differs.parts) differs.first
-      (subst (λ k. AgreeBySlot whose (told k) (made differs.now)) (from_none (length differs.front))
-      (agree_at 0 differs.front differs.now differs.later (subst (Are 0) differs.parts are)))
+      item_broken whose as_entry slots (told (length differs.prefix)) (made differs.now) found
+      (by differs.prefix differs.later differs.now differs.parts) differs.first
+      (subst (λ k. AgreeBySlot whose (told k) (made differs.now)) (from_none (length differs.prefix))
+      (agree_at 0 differs.prefix differs.now differs.later (subst (Are 0) differs.parts are)))
 
-nothing_there : {X : Type 0} (front : List X) (now : X) (later : List X) → [] ≡ front ++ now ∷ later → ⊥
+nothing_there : {X : Type 0} (prefix : List X) (now : X) (later : List X) → [] ≡ prefix ++ now ∷ later → ⊥
 nothing_there [] now later parts = cc
-nothing_there (one ∷ front) now later parts = cc
+nothing_there (one ∷ prefix) now later parts = cc
 
 -- what an epoch makes stands by slot
 module _ (slots : ℕ) where
-  pub effects_by : (before : Histories) (epochs : List (List LineTold)) (front later : List EpochReport)
+  pub effects_by : (before : Histories) (epochs : List (List LineTold)) (prefix later : List EpochReport)
       (now : EpochReport)
-      → made_epochs slots before epochs ≡ front ++ now ∷ later
+      → made_epochs slots before epochs ≡ prefix ++ now ∷ later
       → AreBySlot slot_effected slots now.effects
-  effects_by before [] front later now parts = absurd (nothing_there front now later parts)
+  effects_by before [] prefix later now parts = absurd (nothing_there prefix now later parts)
   effects_by before (lines ∷ epochs) [] later now parts =
       let here : made_epoch slots before lines ≡ now = cc in
       stands_by_slot slot_effected (λ s. made_of.effects s (before s) (events_in (before s) lines s))
       (λ s. effects_own s (before s) (events_in (before s) lines s)) slots now.effects
       (ap (λ (e : EpochReport). e.effects) (sym here))
-  effects_by before (lines ∷ epochs) (one ∷ front) later now parts =
-      let rest : made_epochs slots (behind before lines) epochs ≡ front ++ now ∷ later = cc in
-      effects_by (behind before lines) epochs front later now rest
+  effects_by before (lines ∷ epochs) (one ∷ prefix) later now parts =
+      let rest : made_epochs slots (behind before lines) epochs ≡ prefix ++ now ∷ later = cc in
+      effects_by (behind before lines) epochs prefix later now rest
 
-  pub rows_by : (before : Histories) (epochs : List (List LineTold)) (front later : List EpochReport)
+  pub rows_by : (before : Histories) (epochs : List (List LineTold)) (prefix later : List EpochReport)
       (now : EpochReport)
-      → made_epochs slots before epochs ≡ front ++ now ∷ later
+      → made_epochs slots before epochs ≡ prefix ++ now ∷ later
       → AreBySlot slot_charged slots now.rows
-  rows_by before [] front later now parts = absurd (nothing_there front now later parts)
+  rows_by before [] prefix later now parts = absurd (nothing_there prefix now later parts)
   rows_by before (lines ∷ epochs) [] later now parts =
       let here : made_epoch slots before lines ≡ now = cc in
       stands_by_slot slot_charged (λ s. made_of.rows s (before s) (events_in (before s) lines s))
       (λ s. rows_own s (before s) (events_in (before s) lines s)) slots now.rows
       (ap (λ (e : EpochReport). e.rows) (sym here))
-  rows_by before (lines ∷ epochs) (one ∷ front) later now parts =
-      let rest : made_epochs slots (behind before lines) epochs ≡ front ++ now ∷ later = cc in
-      rows_by (behind before lines) epochs front later now rest
+  rows_by before (lines ∷ epochs) (one ∷ prefix) later now parts =
+      let rest : made_epochs slots (behind before lines) epochs ≡ prefix ++ now ∷ later = cc in
+      rows_by (behind before lines) epochs prefix later now rest
 
-pub all_behind : {X : Type 0} (P : X → Type 0) (front : List X) (x : X) (later : List X) → All P (front ++ x ∷ later) → P x
+pub all_behind : {X : Type 0} (P : X → Type 0) (prefix : List X) (x : X) (later : List X) → All P (prefix ++ x ∷ later) → P x
 all_behind P [] x later all = All-head P x later all
-all_behind P (first ∷ front) x later all = all_behind P front x later (All-tail P first (front ++ x ∷ later) all)
+all_behind P (first ∷ prefix) x later all = all_behind P prefix x later (All-tail P first (prefix ++ x ∷ later) all)
 
-open_broken : (told made : List ChargeEntry) (found : Break) → OpenBreakOf told made found → All (Contains told) made
+pub open_broken : (told made : List ChargeEntry) (found : Break) → OpenBreakOf told made found → All (Contains told) made
     → length told ≡ length made → ⊥
 open_broken told made found (inl gone) each as_many =
-    gone.missing (all_behind (Contains told) gone.front gone.open_ gone.later
+    gone.missing (all_behind (Contains told) gone.prefix gone.open_ gone.later
     (subst (All (Contains told)) gone.parts each))
 open_broken told made found (inr more) each as_many = more.other_count as_many
 

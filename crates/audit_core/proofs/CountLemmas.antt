@@ -23,15 +23,15 @@ use Rattle.audit_core.specs.declared.counts.Passed.{Passed}
 use Rattle.audit_core.specs.declared.telling.Break.{Break}
 
 -- how many commands lines bring
-pub commands_both : (slot : ℕ) (front later : List LineTold)
-    → command_count slot (front ++ later) ≡ command_count slot front + command_count slot later
-commands_both slot front later =
-    ap length (filter_map-append (accepted_command slot) front later)
-    ∙ length-append (commands_accepted slot front) (commands_accepted slot later)
+pub commands_both : (slot : ℕ) (prefix later : List LineTold)
+    → command_count slot (prefix ++ later) ≡ command_count slot prefix + command_count slot later
+commands_both slot prefix later =
+    ap length (filter_map-append (accepted_command slot) prefix later)
+    ∙ length-append (commands_accepted slot prefix) (commands_accepted slot later)
 
-pub commands_push : (slot : ℕ) (front : List LineTold) (now : LineTold)
-    → command_count slot (front ++ now ∷ []) ≡ command_count slot front + command_count slot (now ∷ [])
-commands_push slot front now = commands_both slot front (now ∷ [])
+pub commands_push : (slot : ℕ) (prefix : List LineTold) (now : LineTold)
+    → command_count slot (prefix ++ now ∷ []) ≡ command_count slot prefix + command_count slot (now ∷ [])
+commands_push slot prefix now = commands_both slot prefix (now ∷ [])
 
 pub some_most : {X Y : Type 0} (f : X → Option Y) (xs : List X) → length (filter_map f xs) ≤ length xs
 some_most f [] = omega arith
@@ -45,10 +45,10 @@ pub commands_most : (slot : ℕ) (lines : List LineTold) → command_count slot 
 commands_most slot lines = some_most (accepted_command slot) lines
 
 -- the counts that a slot's packets tell, with a line more
-pub counts_push : (slot : ℕ) (front : List LineTold) (now : LineTold)
-    → told_of commands_told slot (front ++ now ∷ [])
-    ≡ told_of commands_told slot front ++ cons_option (commands_told slot now.entry) []
-counts_push slot front now = simp filter_map-append
+pub counts_push : (slot : ℕ) (prefix : List LineTold) (now : LineTold)
+    → told_of commands_told slot (prefix ++ now ∷ [])
+    ≡ told_of commands_told slot prefix ++ cons_option (commands_told slot now.entry) []
+counts_push slot prefix now = simp filter_map-append
 
 pub last_push : (start : ℕ) (counts : List ℕ) (count : ℕ) → last_count start (counts ++ count ∷ []) ≡ count
 last_push start [] count = refl
@@ -58,11 +58,11 @@ last_push start (first ∷ counts) count = last_push first counts count
 pub up_to_more : (P : List LineTold → LineTold → List LineTold → Type 0) (before lines : List LineTold) (now : LineTold)
     (behind : List LineTold) → EachUpTo P before lines (now ∷ behind) → P (before ++ lines) now behind
     → EachUpTo P before (lines ++ now ∷ []) behind
-up_to_more P before [] now behind each here = (subst (λ front. P front now behind) (append-nil before) here, tt)
+up_to_more P before [] now behind each here = (subst (λ prefix. P prefix now behind) (append-nil before) here, tt)
 up_to_more P before (first ∷ lines) now behind each here = (
   subst (P before first) (sym (append_assoc lines (now ∷ []) behind)) each.0,
   up_to_more P (before ++ first ∷ []) lines now behind each.1
-      (subst (λ front. P front now behind) (sym (append_assoc before (first ∷ []) lines)) here),
+      (subst (λ prefix. P prefix now behind) (sym (append_assoc before (first ∷ []) lines)) here),
 )
 
 -- where all packets lie between, counts rise, each within its bounds
@@ -70,50 +70,50 @@ module _ (slot start : ℕ) where
   abbrev Told : List LineTold → List ℕ
   Told lines = told_of commands_told slot lines
 
-  within_by : (told : Option ℕ) (front later : List LineTold)
-      → IfSome told (λ count. (least slot start front ≤ count) × (count ≤ most slot start front later))
-      → IfSome told (Within slot start front later)
-  within_by None front later lies = tt
-  within_by (Some count) front later lies = (omega (arith, lies.0), lies.1)
+  within_by : (told : Option ℕ) (prefix later : List LineTold)
+      → IfSome told (λ count. (least slot start prefix ≤ count) × (count ≤ most slot start prefix later))
+      → IfSome told (Within slot start prefix later)
+  within_by None prefix later lies = tt
+  within_by (Some count) prefix later lies = (omega (arith, lies.0), lies.1)
 
-  rises_by : (told : Option ℕ) (front later : List LineTold) (counts : List ℕ)
-      → IfSome told (λ count. (least slot start front ≤ count) × (count ≤ most slot start front later))
-      → Rises (last_count start (Told front ++ cons_option told [])) counts
-      → Rises (last_count start (Told front)) (cons_option told counts)
-  rises_by None front later counts lies rises =
-      subst (λ xs. Rises (last_count start xs) counts) (append-nil (Told front)) rises
-  rises_by (Some count) front later counts lies rises = (
+  rises_by : (told : Option ℕ) (prefix later : List LineTold) (counts : List ℕ)
+      → IfSome told (λ count. (least slot start prefix ≤ count) × (count ≤ most slot start prefix later))
+      → Rises (last_count start (Told prefix ++ cons_option told [])) counts
+      → Rises (last_count start (Told prefix)) (cons_option told counts)
+  rises_by None prefix later counts lies rises =
+      subst (λ xs. Rises (last_count start xs) counts) (append-nil (Told prefix)) rises
+  rises_by (Some count) prefix later counts lies rises = (
     omega (arith, lies.0),
-    subst (λ k. Rises k counts) (last_push start (Told front) count) rises,
+    subst (λ k. Rises k counts) (last_push start (Told prefix) count) rises,
   )
 
-  rises_from : (front lines : List LineTold) → EachUpTo (LiesBetween slot start) front lines []
-      → Rises (last_count start (Told front)) (Told lines)
-  rises_from front [] each = tt
-  rises_from front (now ∷ later) each =
-      rises_by (commands_told slot now.entry) front (later ++ []) (Told later) each.0
-      (subst (λ xs. Rises (last_count start xs) (Told later)) (counts_push slot front now)
-      (rises_from (front ++ now ∷ []) later each.1))
+  rises_from : (prefix lines : List LineTold) → EachUpTo (LiesBetween slot start) prefix lines []
+      → Rises (last_count start (Told prefix)) (Told lines)
+  rises_from prefix [] each = tt
+  rises_from prefix (now ∷ later) each =
+      rises_by (commands_told slot now.entry) prefix (later ++ []) (Told later) each.0
+      (subst (λ xs. Rises (last_count start xs) (Told later)) (counts_push slot prefix now)
+      (rises_from (prefix ++ now ∷ []) later each.1))
 
-  within_from : (front lines : List LineTold) → EachUpTo (LiesBetween slot start) front lines []
-      → EachFrom (LiesWithin slot start) front lines
-  within_from front [] each = tt
-  within_from front (now ∷ later) each = (
-    subst (λ rest. IfSome (commands_told slot now.entry) (Within slot start front rest)) (append-nil later)
-        (within_by (commands_told slot now.entry) front (later ++ []) each.0),
-    within_from (front ++ now ∷ []) later each.1,
+  within_from : (prefix lines : List LineTold) → EachUpTo (LiesBetween slot start) prefix lines []
+      → EachFrom (LiesWithin slot start) prefix lines
+  within_from prefix [] each = tt
+  within_from prefix (now ∷ later) each = (
+    subst (λ rest. IfSome (commands_told slot now.entry) (Within slot start prefix rest)) (append-nil later)
+        (within_by (commands_told slot now.entry) prefix (later ++ []) each.0),
+    within_from (prefix ++ now ∷ []) later each.1,
   )
 
   pub counts_from : (lines : List LineTold) → EachUpTo (LiesBetween slot start) [] lines [] → CountsRise slot start lines
   counts_from lines each = record { rises = rises_from [] lines each; within = within_from [] lines each }
 
 -- the last count, with a line more
-last_more : (slot start : ℕ) (front : List LineTold) (now : LineTold)
-    → last_behind (last_before slot start front) (commands_told slot now.entry)
-    ≡ last_before slot start (front ++ now ∷ [])
-last_more slot start front now =
-    last_by (told_of commands_told slot front) (commands_told slot now.entry)
-    ∙ ap (last_count start) (sym (counts_push slot front now))
+last_more : (slot start : ℕ) (prefix : List LineTold) (now : LineTold)
+    → last_behind (last_before slot start prefix) (commands_told slot now.entry)
+    ≡ last_before slot start (prefix ++ now ∷ [])
+last_more slot start prefix now =
+    last_by (told_of commands_told slot prefix) (commands_told slot now.entry)
+    ∙ ap (last_count start) (sym (counts_push slot prefix now))
   where
     last_by : (counts : List ℕ) (told : Option ℕ)
         → last_behind (last_count start counts) told ≡ last_count start (counts ++ cons_option told [])
@@ -283,7 +283,7 @@ module _ (n slot start : ℕ) (lines : List LineTold) (at : ℕ) (now : LineTold
   first_here found each outside is =
       let most_is = most_by (commands_told slot now.entry) refl outside in
       record {
-        front = take at lines;
+        prefix = take at lines;
         now = now;
         later = drop (at + 1) lines;
         parts = sym (take-append-drop at lines) ∙ ap (λ rest. take at lines ++ rest) parts;
@@ -298,6 +298,6 @@ module _ (n slot start : ℕ) (lines : List LineTold) (at : ℕ) (now : LineTold
       → EachUpTo (LiesBetween slot start) [] (take at lines) (drop at lines)
       → EachUpTo (LiesBetween slot start) [] (take (at + 1) lines) (drop (at + 1) lines)
   lies_next more lies each =
-      subst (λ front. EachUpTo (LiesBetween slot start) [] front (drop (at + 1) lines)) (sym more)
+      subst (λ prefix. EachUpTo (LiesBetween slot start) [] prefix (drop (at + 1) lines)) (sym more)
       (up_to_more (LiesBetween slot start) [] (take at lines) now (drop (at + 1) lines)
       (subst (EachUpTo (LiesBetween slot start) [] (take at lines)) parts each) (lies_same.0 lies))

@@ -28,7 +28,7 @@ pub took : {X Y : Type 0} (f : X → Y) (xs : List X) (i : ℕ) (x : X) → i < 
     → take (i + 1) (map f xs) ≡ take i (map f xs) ++ f x ∷ []
 took f xs i x within is =
     take-map f (i + 1) xs ∙ sym (mapped_more f [] xs i x within is)
-    ∙ ap (λ front. front ++ f x ∷ []) (sym (take-map f i xs))
+    ∙ ap (λ prefix. prefix ++ f x ∷ []) (sym (take-map f i xs))
 
 -- a list at a place, mapped
 pub mapped_parts : {X Y : Type 0} (f : X → Y) (xs : List X) (i : ℕ) (x : X) → i < length xs → x ≡ get_or xs i x
@@ -95,7 +95,7 @@ module _ {X : Type 0} (told made : List X) where
     told_left = drop i told;
     made_left = drop i made;
     told_parts = sym (take-append-drop i told);
-    made_parts = sym (take-append-drop i made) ∙ ap (λ front. front ++ drop i made) (sym up.same);
+    made_parts = sym (take-append-drop i made) ∙ ap (λ prefix. prefix ++ drop i made) (sym up.same);
     stands_there = one;
     due_there = other;
     differ = λ is. elim (cases_lt i (length made)) [

@@ -10,15 +10,15 @@ use Rattle.audit_core.specs.Charges.{AgreeUpTo}
 
 module _ {X : Type 0} (whose : X → ℕ) (told : ℕ → List X) (made : EpochReport → List X) where
   -- one epoch more agrees
-  pub agree_more : (epoch : ℕ) (front : List EpochReport) (now : EpochReport) → AgreeUpTo whose told made epoch front
-      → AgreeBySlot whose (told (epoch + length front)) (made now)
-      → AgreeUpTo whose told made epoch (front ++ now ∷ [])
+  pub agree_more : (epoch : ℕ) (prefix : List EpochReport) (now : EpochReport) → AgreeUpTo whose told made epoch prefix
+      → AgreeBySlot whose (told (epoch + length prefix)) (made now)
+      → AgreeUpTo whose told made epoch (prefix ++ now ∷ [])
   agree_more epoch [] now each here =
       let at : epoch + 0 ≡ epoch = omega arith in
       (subst (λ k. AgreeBySlot whose (told k) (made now)) at here, tt)
-  agree_more epoch (first ∷ front) now each here =
-      let at : epoch + suc (length front) ≡ epoch + 1 + length front = omega arith in
-      (each.0, agree_more (epoch + 1) front now each.1 (subst (λ k. AgreeBySlot whose (told k) (made now)) at here))
+  agree_more epoch (first ∷ prefix) now each here =
+      let at : epoch + suc (length prefix) ≡ epoch + 1 + length prefix = omega arith in
+      (each.0, agree_more (epoch + 1) prefix now each.1 (subst (λ k. AgreeBySlot whose (told k) (made now)) at here))
 
 pub effects_all : (lines : List (List Meaning)) (entries : List Entry) (epoch : ℕ) (all : List EpochReport)
     → AgreeUpTo slot_effected (λ e. effects_told lines e entries) (λ (now : EpochReport). now.effects) epoch all

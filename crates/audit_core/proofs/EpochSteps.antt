@@ -62,23 +62,23 @@ module _ (own : Case) (at : Epoch) where
         (found : Break) → EachEpoch P no_events at.told → B (histories_at at) at.here found
         → (P (histories_at at) at.here → ⊥) → EpochBreak P B (told_of own) found
     epoch_break P B found holds there broken = record {
-      front = at.told;
+      prefix = at.told;
       lines = at.here;
       first = record { later = at.later; parts = told_parts; holds = holds; broken = broken };
       there = there;
     }
 
     module _ {X : Type 0} (whose : X → ℕ) (as_entry : X → Entry) (told : ℕ → List X) (made : EpochReport → List X)
-        (as_many : length at.told ≡ length at.front)
+        (as_many : length at.told ≡ length at.prefix)
         (each : AgreeUpTo whose told made 0 (led_to own at.told)) where
-      count : length (led_to own at.told) ≡ length at.front
+      count : length (led_to own at.told) ≡ length at.prefix
       count = made_count own.slots no_events at.told ∙ as_many
 
       pub charge_break : (found : Break)
-          → ItemBreak whose as_entry own.slots (told (length at.front)) (made (led_here own at)) found
+          → ItemBreak whose as_entry own.slots (told (length at.prefix)) (made (led_here own at)) found
           → EpochsBreak whose as_entry own.slots told made (led_to own (told_of own)) found
       charge_break found first = inr (record {
-        front = led_to own at.told;
+        prefix = led_to own at.told;
         now = led_here own at;
         later = behind_here;
         parts = led_parts;
@@ -86,10 +86,10 @@ module _ (own : Case) (at : Epoch) where
         first = subst (λ k. ItemBreak whose as_entry own.slots (told k) (made (led_here own at)) found) (sym count) first;
       })
 
-      pub charge_agrees : AgreeBySlot whose (told (length at.front)) (made (led_here own at))
+      pub charge_agrees : AgreeBySlot whose (told (length at.prefix)) (made (led_here own at))
           → AgreeUpTo whose told made 0 (led_to own (at.told ++ at.here ∷ []))
       charge_agrees here =
-          let place : length at.front ≡ 0 + length (led_to own at.told) = omega (arith, count) in
+          let place : length at.prefix ≡ 0 + length (led_to own at.told) = omega (arith, count) in
           subst (AgreeUpTo whose told made 0) (sym led_more)
           (agree_more whose told made 0 (led_to own at.told) (led_here own at) each
           (subst (λ k. AgreeBySlot whose (told k) (made (led_here own at))) place here))
@@ -101,14 +101,14 @@ module _ (own : Case) (at : Epoch) where
         ≡ (due_of own at.told ++ epoch_entries (led_here own at)) ++ due_behind
     due_parts =
         let opens = map entry.Charge (made_report own.slots (told_of own)).opens in
-        let front = due_of own at.told in
+        let prefix = due_of own at.told in
         let here = epoch_entries (led_here own at) in
         let rest = flat_map epoch_entries behind_here in
         ap (λ (l : List Entry). l ++ opens)
         (ap (flat_map epoch_entries) led_parts
         ∙ flat_map-append epoch_entries (led_to own at.told) (led_here own at ∷ behind_here)
-        ∙ sym (append_assoc front here rest))
-        ∙ append_assoc (front ++ here) rest opens
+        ∙ sym (append_assoc prefix here rest))
+        ∙ append_assoc (prefix ++ here) rest opens
 
     pub order_break : (found : Break)
         → DiffersAt own.entries (due_of own at.told ++ epoch_entries (led_here own at)) found

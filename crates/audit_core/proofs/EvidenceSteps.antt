@@ -15,12 +15,13 @@ use Rattle.audit_core.specs.Evidence.{IsCaseOf, RunsNext}
 use Rattle.audit_core.specs.Holding.{IsKnown}
 use Rattle.audit_core.specs.Judged.{Case, ComesNext, Epoch, HasFound, HasJudged, HoldsOf, HoldsWhole, IsEnd, StandsBehind, asked_of, told_of}
 use Rattle.audit_core.specs.Belonging.{AreThose, placed_in}
-use Rattle.audit_core.specs.Kept.{ArePlaced, IsPlaced, meaning_in, meanings_in}
+use Rattle.slot_execution.specs.Kept.{IsPlaced, meaning_in}
+use Rattle.audit_core.specs.Kept.{ArePlaced, meanings_in}
 use Rattle.audit_core.specs.Ranks.{rank_of}
 use Rattle.audit_core.specs.Setups.{setup_of}
 use Rattle.audit_core.specs.Sharing.{under}
 use Rattle.audit_core.specs.declared.judge.Judge.{Judge}
-use Rattle.audit_core.specs.declared.kept.KeptMeaning.{KeptMeaning}
+use Rattle.slot_execution.specs.declared.kept.KeptMeaning.{KeptMeaning}
 use Rattle.audit_core.specs.declared.report.Report.{Report}
 use Rattle.audit_core.specs.declared.report.Run.{Run}
 use Rattle.audit_core.specs.declared.report.Stood.{Stood}
@@ -62,10 +63,10 @@ begin_at before (suc i) (first ∷ made) low d =
     )
 
 -- lines between two places
-between : {X : Type 0} (front part later : List X) (from to : ℕ) → length front ≡ from → from + length part ≡ to
-    → slice_range (front ++ (part ++ later)) from to ≡ part
-between front part later from to at end =
-    ap (take (to - from)) (drop_at front (part ++ later) from at)
+between : {X : Type 0} (prefix part later : List X) (from to : ℕ) → length prefix ≡ from → from + length part ≡ to
+    → slice_range (prefix ++ (part ++ later)) from to ≡ part
+between prefix part later from to at end =
+    ap (take (to - from)) (drop_at prefix (part ++ later) from at)
     ∙ take_at part later (to - from) (omega (arith, end))
 
 range_mapped : (octets : List ℕ) (kept : List KeptMeaning) (from to : ℕ)
@@ -77,7 +78,7 @@ range_mapped octets kept from to =
 -- an epoch of a case by its place
 abbrev pub epoch_at_place : (own : Case) → ℕ → List Meaning → List LineTold → Epoch
 epoch_at_place own i now here = record {
-  front = take i own.made;
+  prefix = take i own.made;
   now = now;
   left = drop (i + 1) own.made;
   told = take i (told_of own);
@@ -218,7 +219,7 @@ module _ (own : Case) (setup : Setup) (trace : Trace) (report : Report) (is : Is
 pub comes_next : (own : Case) (at : Epoch) (octets : List ℕ) (lines : List KeptMeaning) (report : Report) (runs : List Run)
     (entries : List Stood) (subscribers : List SubscriberState) (judge : Judge)
     → RunsNext own at octets lines report runs subscribers judge
-    → AreThose entries (placed_in own.made (length at.front) own.entries)
+    → AreThose entries (placed_in own.made (length at.prefix) own.entries)
     → ComesNext own at octets lines report entries subscribers judge
 comes_next own at octets lines report runs entries subscribers judge next those = record {
   setup = next.setup;
@@ -236,11 +237,11 @@ comes_next own at octets lines report runs entries subscribers judge next those 
 }
 
 -- where a line isn't answered, no more is asked
-pub over_found : (own : Case) (front left : List (List Meaning)) (told later : List (List LineTold)) (judge : Judge)
-    → HasJudged own front left told later judge → asked_of judge.broken ≤ rank_of of.Answers
+pub over_found : (own : Case) (prefix left : List (List Meaning)) (told later : List (List LineTold)) (judge : Judge)
+    → HasJudged own prefix left told later judge → asked_of judge.broken ≤ rank_of of.Answers
     → HasFound own judge.broken
-over_found own front left told later judge judged low =
-    let Old = HoldsOf own front told in
+over_found own prefix left told later judge judged low =
+    let Old = HoldsOf own prefix told in
     found_all own Old judge.broken
     (all_done own Old (HoldsWhole own) judge.broken 1 low
     (pass_step own Old (HoldsWhole own) of.Entries judge.broken 0 refl
@@ -316,7 +317,7 @@ module _ (own : Case) (setup : Setup) (trace : Trace) (report : Report) (is : Is
   this_next = runs_next own setup trace report is i now_at.0 here_at.0 low now_at.1 here_at.1 begin end from_at to_at
 
   pub this_judged : (subscribers : List SubscriberState) (judge : Judge)
-      → HasJudged own (this_epoch.front ++ this_epoch.now ∷ []) this_epoch.left (this_epoch.told ++ this_epoch.here ∷ [])
+      → HasJudged own (this_epoch.prefix ++ this_epoch.now ∷ []) this_epoch.left (this_epoch.told ++ this_epoch.here ∷ [])
       this_epoch.later judge
       → StandsBehind own (this_epoch.told ++ this_epoch.here ∷ []) this_epoch.left subscribers judge
       → judge.setup ≡ setup → length subscribers ≡ own.slots → JudgedAt own (i + 1) setup subscribers judge

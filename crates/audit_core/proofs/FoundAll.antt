@@ -39,23 +39,23 @@ module _ (e : LineEntry) (entries : List LineEntry) where
   range_this first zero low high = absurd (omega (arith, low, high))
   range_this first (suc n) low high = elim (cases_lt first (line_of e)) [
     | inl past ↦
-        let front : of_number first (e ∷ entries) ≡ of_number first entries =
+        let prefix : of_number first (e ∷ entries) ≡ of_number first entries =
         of_other first (λ is. omega (arith, is, past)) in
         let rest = range_this (first + 1) n (omega (arith, past)) (omega (arith, high)) in
         omega (
           arith,
-          ap length front,
+          ap length prefix,
           rest,
           length-append (of_number first (e ∷ entries)) (in_range (first + 1) n (e ∷ entries)),
           length-append (of_number first entries) (in_range (first + 1) n entries),
         )
     | inr most ↦
         let is : line_of e ≡ first = omega (arith, low, most) in
-        let front : of_number first (e ∷ entries) ≡ e ∷ of_number first entries = of_this first is in
+        let prefix : of_number first (e ∷ entries) ≡ e ∷ of_number first entries = of_this first is in
         let rest = range_other (first + 1) n (λ k above high_k same. omega (arith, same, is, above)) in
         omega (
           arith,
-          ap length front,
+          ap length prefix,
           ap length rest,
           length-append (of_number first (e ∷ entries)) (in_range (first + 1) n (e ∷ entries)),
           length-append (of_number first entries) (in_range (first + 1) n entries),

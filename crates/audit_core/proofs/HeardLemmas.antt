@@ -169,21 +169,6 @@ trace_more old new texts text closed other still outside entries goes hears = re
   says_report = rw (outside, entries) hears.says_report;
 }
 
-pub marker_heard : (old new : Heard) (texts : List Text) (text : Text) → old.in_report ≡ false → text ≡ marker
-    → new.in_report ≡ true → new.outside ≡ old.outside → new.entries ≡ old.entries
-    → new.lines ≡ old.lines → new.bad ≡ old.bad → new.least ≡ old.least
-    → HasHeard old texts → HasHeard new (texts ++ text ∷ [])
-marker_heard old new texts text closed is opened outside entries lines bad_one least hears = record {
-  trace = hears.trace;
-  report = hears.report;
-  parts = opens_report texts hears.trace hears.report text old.in_report closed is (hears.unopened closed) hears.parts
-      ∙ ap (λ b. hears.trace ++ with_report b hears.report) (sym opened);
-  before = hears.before;
-  unopened = λ still. let clash : true ≡ false = sym opened ∙ still in cc;
-  says_trace = rw (lines, bad_one, least) hears.says_trace;
-  says_report = rw (outside, entries) hears.says_report;
-}
-
 -- A line of the trace is passed over behind a bad one, is a line, or is bad.
 pub says_over : (lines : List Line) (at : Option BadAt) (least : ℕ) (trace : List Text) (text : Text)
     → is_some at ≡ true → SaysTrace lines at least trace → SaysTrace lines at least (trace ++ text ∷ [])

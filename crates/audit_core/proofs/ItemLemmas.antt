@@ -1,17 +1,15 @@
 -- The items at the first place at which two lists differ.
-use Rattle.std.proofs.Common.{◌≡◌, ◌≢◌, ℕ, ◌+◌, ◌<◌, ◌≤◌, Bool, true, false, if◌then◌else◌, Option, Some, None, List, ◌∷◌, length, drop, find, refl, sym, ap, ◌∙◌, inl, inr}
+use Rattle.std.proofs.Common.{◌≡◌, ◌≢◌, ℕ, ◌+◌, ◌<◌, ◌≤◌, Bool, true, false, if◌then◌else◌, Some, None, List, ◌∷◌, length, drop, find, refl, sym, ap, ◌∙◌}
 use Rattle.std.specs.Option.{option_map}
-use Rattle.std.proofs.lemmas.Bool.{cases_lt}
 use Rattle.std.proofs.lemmas.List.{drop_all}
 use Rattle.report_lines.specs.declared.entry.Entry.{Entry}
 use Rattle.audit_core.specs.Charges.{ItemDiffers}
 use Rattle.audit_core.specs.Places.{first_of}
 use Rattle.audit_core.specs.Same.{SameUpTo, said_at}
-use Rattle.audit_core.specs.Telling.{said_of, tells, tells_said}
-use Rattle.audit_core.specs.Why.{OrderBreak}
+use Rattle.audit_core.specs.Telling.{said_of, tells_said}
 use Rattle.audit_core.specs.declared.telling.Break.{Break}
 use Rattle.audit_core.specs.declared.telling.SaidEntry.{SaidEntry}
-use Rattle.audit_core.proofs.Differing.{all_same, first_difference, some_there}
+use Rattle.audit_core.proofs.Differing.{first_difference, some_there}
 use Rattle.audit_core.proofs.TellLemmas.{tells_is}
 
 module _ {X : Type 0} (as_entry : X → Entry) where
@@ -42,33 +40,6 @@ module _ {X : Type 0} (as_entry : X → Entry) where
         (past_differs told made at some);
     is = is ∙ tells_is (option_map as_entry (first_of (drop at told))) (option_map as_entry (first_of (drop at made)));
   }
-
-own_entry : (told : Option Entry) → option_map (λ (e : Entry). e) told ≡ told
-own_entry None = refl
-own_entry (Some e) = refl
-
-pub order_differs : (entries due : List Entry) (at : ℕ) (found : Break) → SameUpTo entries due at
-    → (length due ≤ at → at < length entries)
-    → found ≡ tells_said (said_at (λ (e : Entry). e) entries at) (said_at (λ (e : Entry). e) due at)
-    → OrderBreak entries due found
-order_differs entries due at found up some is = record {
-  stands = first_of (drop at entries);
-  asked = first_of (drop at due);
-  first = first_difference entries due at (first_of (drop at entries)) (first_of (drop at due)) up refl refl
-      (past_differs (λ (e : Entry). e) entries due at some);
-  is = is
-      ∙ tells_is (option_map (λ (e : Entry). e) (first_of (drop at entries)))
-      (option_map (λ (e : Entry). e) (first_of (drop at due)))
-      ∙ (λ i. tells (own_entry (first_of (drop at entries)) i) (own_entry (first_of (drop at due)) i));
-}
-
--- where they aren't the same, and all that are due stand, one more stands
-pub order_some : (entries due : List Entry) (at : ℕ) → (entries ≡ due → ⊥) → SameUpTo entries due at
-    → length due ≤ at → at < length entries
-order_some entries due at other up gone = elim (cases_lt at (length entries)) [
-  | inl low ↦ low
-  | inr past ↦ absurd (other (all_same entries due at past gone up))
-]
 
 -- the first item that passes a test, among those that are left
 pub find_next : {X : Type 0} (p : X → Bool) (items : List X) (i : ℕ) (x : X) → drop i items ≡ x ∷ drop (i + 1) items

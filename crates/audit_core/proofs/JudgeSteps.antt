@@ -21,7 +21,7 @@ use Rattle.audit_core.specs.Bounds.{IsCountBreak}
 use Rattle.audit_core.specs.Charges.{ItemBreak}
 use Rattle.audit_core.specs.Dues.{DiffersAt, StandsSo, entries_due}
 use Rattle.audit_core.specs.Entries.{all_lines, effects_told, line_entries, rows_told, slot_charged}
-use Rattle.audit_core.specs.Fronts.{MayStand}
+use Rattle.audit_core.specs.FirstLines.{MayStand}
 use Rattle.audit_core.specs.Gateway.{IsGatewayBreak}
 use Rattle.audit_core.specs.Judged.{Before, Behind, BreakOf, Case, Epoch, HasCounted, HasJudged, HoldsOf, HoldsWhole, IsBroken, IsEndedTo, IsJudgedTo, IsOutside, Partly, With, asked_of, due_of, histories_at, led_here, offered, told_of}
 use Rattle.audit_core.specs.OfSlot.{AreAnswered}
@@ -247,23 +247,23 @@ judged_first own setup broken outside = record {
 }
 
 -- an epoch more
-module _ (own : Case) (at : Epoch) (parts : own.made ≡ at.front ++ at.now ∷ at.left)
-    (told_parts : told_of own ≡ at.told ++ at.here ∷ at.later) (many : length at.told ≡ length at.front) where
-  lines_more : length (all_lines (at.front ++ at.now ∷ [])) ≡ length (all_lines at.front) + length at.now
+module _ (own : Case) (at : Epoch) (parts : own.made ≡ at.prefix ++ at.now ∷ at.left)
+    (told_parts : told_of own ≡ at.told ++ at.here ∷ at.later) (many : length at.told ≡ length at.prefix) where
+  lines_more : length (all_lines (at.prefix ++ at.now ∷ [])) ≡ length (all_lines at.prefix) + length at.now
   lines_more =
-      ap length (flat_map-append (λ (made : List Meaning). made) at.front (at.now ∷ [])
-      ∙ ap (λ l. all_lines at.front ++ l) (append-nil at.now))
-      ∙ length-append (all_lines at.front) at.now
+      ap length (flat_map-append (λ (made : List Meaning). made) at.prefix (at.now ∷ [])
+      ∙ ap (λ l. all_lines at.prefix ++ l) (append-nil at.now))
+      ∙ length-append (all_lines at.prefix) at.now
 
-  pub judged_more : (judge : Judge) → judge.lines ≡ length (all_lines at.front) + length at.now
+  pub judged_more : (judge : Judge) → judge.lines ≡ length (all_lines at.prefix) + length at.now
       → Partly own (Before own at) (With own at) 11 judge.broken
       → HasCounted own (at.told ++ at.here ∷ []) judge
-      → HasJudged own (at.front ++ at.now ∷ []) at.left (at.told ++ at.here ∷ []) at.later judge
+      → HasJudged own (at.prefix ++ at.now ∷ []) at.left (at.told ++ at.here ∷ []) at.later judge
   judged_more judge count partly counted = record {
-    parts = parts ∙ sym (append_assoc at.front (at.now ∷ []) at.left);
+    parts = parts ∙ sym (append_assoc at.prefix (at.now ∷ []) at.left);
     told_parts = told_parts ∙ sym (append_assoc at.told (at.here ∷ []) at.later);
     as_many = length-append at.told (at.here ∷ []) ∙ ap (λ k. k + 1) many
-        ∙ sym (length-append at.front (at.now ∷ []));
+        ∙ sym (length-append at.prefix (at.now ∷ []));
     lines = count ∙ sym lines_more;
     counted = counted;
     holds = holds_all own (Before own at) (With own at) judge.broken partly;
@@ -363,15 +363,15 @@ module _ (own : Case) (at : Epoch) (parts : own.made ≡ at.front ++ at.now ∷ 
 
   pub effects_step : (broken : Option Refutation) (found : Option Break)
       → IfSome found (ItemBreak slot_effected entry.Effect own.slots
-      (effects_told own.made (length at.front) own.entries) (led_here own at).effects)
-      → IfNone found (AgreeBySlot slot_effected (effects_told own.made (length at.front) own.entries)
+      (effects_told own.made (length at.prefix) own.entries) (led_here own at).effects)
+      → IfNone found (AgreeBySlot slot_effected (effects_told own.made (length at.prefix) own.entries)
       (led_here own at).effects)
       → Partly own (Before own at) (With own at) 6 broken
       → Partly own (Before own at) (With own at) 7 (offered broken of.Effects found)
   effects_step broken found some none partly =
       offer_step own (Before own at) (With own at) of.Effects broken found 6 refl partly
       (λ low. some_map (ItemBreak slot_effected entry.Effect own.slots
-      (effects_told own.made (length at.front) own.entries) (led_here own at).effects)
+      (effects_told own.made (length at.prefix) own.entries) (led_here own at).effects)
       (BreakOf own of.Effects) found
       (charge_break own at told_parts slot_effected entry.Effect (λ epoch. effects_told own.made epoch own.entries)
       (λ (now : EpochReport). now.effects) many (partly.old of.Effects low (omega arith))) some)
@@ -381,15 +381,15 @@ module _ (own : Case) (at : Epoch) (parts : own.made ≡ at.front ++ at.now ∷ 
 
   pub rows_step : (broken : Option Refutation) (found : Option Break)
       → IfSome found (ItemBreak slot_charged entry.Charge own.slots
-      (rows_told own.made (length at.front) own.entries) (led_here own at).rows)
-      → IfNone found (AgreeBySlot slot_charged (rows_told own.made (length at.front) own.entries)
+      (rows_told own.made (length at.prefix) own.entries) (led_here own at).rows)
+      → IfNone found (AgreeBySlot slot_charged (rows_told own.made (length at.prefix) own.entries)
       (led_here own at).rows)
       → Partly own (Before own at) (With own at) 7 broken
       → Partly own (Before own at) (With own at) 8 (offered broken of.Rows found)
   rows_step broken found some none partly =
       offer_step own (Before own at) (With own at) of.Rows broken found 7 refl partly
       (λ low. some_map (ItemBreak slot_charged entry.Charge own.slots
-      (rows_told own.made (length at.front) own.entries) (led_here own at).rows)
+      (rows_told own.made (length at.prefix) own.entries) (led_here own at).rows)
       (BreakOf own of.Rows) found
       (charge_break own at told_parts slot_charged entry.Charge (λ epoch. rows_told own.made epoch own.entries)
       (λ (now : EpochReport). now.rows) many (partly.old of.Rows low (omega arith))) some)

@@ -20,7 +20,7 @@ module _ (own : Case) (at : Epoch) (lines : List ToldLine) (report : Report) (en
     (told : IsTold own at lines report entries) (slots : ℕ) (setup : Setup) (walked : Walked) (played : Played)
     (led : IsLedTo own at slots setup walked played) where
   abbrev first : ℕ
-  first = length (all_lines at.front) + 1
+  first = length (all_lines at.prefix) + 1
 
   pub judged_six : (j0 j1 j2 j3 : Judge)
       → j1.broken ≡ offered j0.broken of.Numbers walked.numbers → j1.entries ≡ j0.entries

@@ -173,7 +173,7 @@ flat_step first n next (one ∷ keyed) up none = elim (cases_eq one.key first) [
       (flat_step first n next keyed (lower one.key first keyed up.0 up.1) (tail_past (first + suc n) one keyed none))
   | inr other ↦
       let above : Ascends (first + 1) (one ∷ keyed) = (omega (arith, other, up.0), up.1) in
-      ap (λ front. front ++ flat (first + 1) n (one ∷ keyed)) (none_low first (first + 1) (one ∷ keyed) (omega arith) above)
+      ap (λ prefix. prefix ++ flat (first + 1) n (one ∷ keyed)) (none_low first (first + 1) (one ∷ keyed) (omega arith) above)
       ∙ next (one ∷ keyed) above (λ k past. none k (omega (arith, past)))
 ]
 

@@ -49,7 +49,7 @@ line_known slices slots before line below =
       ap length (book_of-push before line),
     ))
 
-lines_known : (slices slots : ℕ) (before lines : List Line) → length (book_of (before ++ lines)) ≤ slots
+pub lines_known : (slices slots : ℕ) (before lines : List Line) → length (book_of (before ++ lines)) ≤ slots
     → All (IsKnown slots) (meant_from slices before lines)
 lines_known slices slots before [] below = All-nil (IsKnown slots)
 lines_known slices slots before (line ∷ lines) below =

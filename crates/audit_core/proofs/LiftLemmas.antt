@@ -19,10 +19,10 @@ use Rattle.audit_core.proofs.MoveLemmas.{before_same_move, before_this_move, cou
 use Rattle.audit_core.proofs.ShareLemmas.{command_about, counts_shared, moves_about}
 
 -- lines tell of a slot, and bring it, what others do
-pub record Alike (slot : ℕ) (front own : List LineTold) : Type 0 where
-  pub commands : command_count slot front ≡ command_count slot own
-  pub moved : command_count slot (before_last_move slot front) ≡ command_count slot (before_last_move slot own)
-  pub told : told_of commands_told slot front ≡ told_of commands_told slot own
+pub record Alike (slot : ℕ) (prefix own : List LineTold) : Type 0 where
+  pub commands : command_count slot prefix ≡ command_count slot own
+  pub moved : command_count slot (before_last_move slot prefix) ≡ command_count slot (before_last_move slot own)
+  pub told : told_of commands_told slot prefix ≡ told_of commands_told slot own
 
 -- a line that isn't about the slot
 pub record Silent (slot : ℕ) (now : LineTold) : Type 0 where
@@ -44,33 +44,33 @@ silent_kind slot now (refused r is m tells) away = let no : true ≡ false = sym
 none_brought : (slot : ℕ) (now : LineTold) → accepted_command slot now ≡ None → command_count slot (now ∷ []) ≡ 0
 none_brought slot now none = ap (λ c. length (cons_option c [])) none
 
-module _ (slot : ℕ) (front own : List LineTold) (now : LineTold) (alike : Alike slot front own) where
+module _ (slot : ℕ) (prefix own : List LineTold) (now : LineTold) (alike : Alike slot prefix own) where
   alike_moved : (test : Bool) → moves slot now ≡ test
-      → command_count slot (before_last_move slot (front ++ now ∷ []))
+      → command_count slot (before_last_move slot (prefix ++ now ∷ []))
       ≡ command_count slot (before_last_move slot (own ++ now ∷ []))
   alike_moved true moves_ =
-      ap (command_count slot) (before_this_move slot front now moves_) ∙ alike.commands
+      ap (command_count slot) (before_this_move slot prefix now moves_) ∙ alike.commands
       ∙ ap (command_count slot) (sym (before_this_move slot own now moves_))
   alike_moved false stays =
-      ap (command_count slot) (before_same_move slot front now stays) ∙ alike.moved
+      ap (command_count slot) (before_same_move slot prefix now stays) ∙ alike.moved
       ∙ ap (command_count slot) (sym (before_same_move slot own now stays))
 
-  pub alike_both : Alike slot (front ++ now ∷ []) (own ++ now ∷ [])
+  pub alike_both : Alike slot (prefix ++ now ∷ []) (own ++ now ∷ [])
   alike_both = record {
-    commands = commands_push slot front now ∙ ap (λ n. n + command_count slot (now ∷ [])) alike.commands
+    commands = commands_push slot prefix now ∙ ap (λ n. n + command_count slot (now ∷ [])) alike.commands
         ∙ sym (commands_push slot own now);
     moved = alike_moved (moves slot now) refl;
-    told = counts_push slot front now ∙ ap (λ counts. counts ++ cons_option (commands_told slot now.entry) []) alike.told
+    told = counts_push slot prefix now ∙ ap (λ counts. counts ++ cons_option (commands_told slot now.entry) []) alike.told
         ∙ sym (counts_push slot own now);
   }
 
-  pub alike_one : Silent slot now → Alike slot (front ++ now ∷ []) own
+  pub alike_one : Silent slot now → Alike slot (prefix ++ now ∷ []) own
   alike_one silent = record {
-    commands = omega (arith, commands_push slot front now, none_brought slot now silent.brings, alike.commands);
-    moved = ap (command_count slot) (before_same_move slot front now silent.stays) ∙ alike.moved;
-    told = counts_push slot front now
-        ∙ ap (λ told. told_of commands_told slot front ++ cons_option told []) silent.tells
-        ∙ append-nil (told_of commands_told slot front) ∙ alike.told;
+    commands = omega (arith, commands_push slot prefix now, none_brought slot now silent.brings, alike.commands);
+    moved = ap (command_count slot) (before_same_move slot prefix now silent.stays) ∙ alike.moved;
+    told = counts_push slot prefix now
+        ∙ ap (λ told. told_of commands_told slot prefix ++ cons_option told []) silent.tells
+        ∙ append-nil (told_of commands_told slot prefix) ∙ alike.told;
   }
 
 -- the commands before the next move are those of lines about the slot
@@ -99,61 +99,61 @@ pub next_alike : (slot : ℕ) (later : List LineTold)
 next_alike slot [] = refl
 next_alike slot (now ∷ later) = next_by slot now later (is_about slot now) refl (next_alike slot later)
 
-module _ (slot start : ℕ) (front own : List LineTold) (later : List LineTold) (alike : Alike slot front own) where
-  pub least_alike : least slot start own ≡ least slot start front
+module _ (slot start : ℕ) (prefix own : List LineTold) (later : List LineTold) (alike : Alike slot prefix own) where
+  pub least_alike : least slot start own ≡ least slot start prefix
   least_alike = (λ i. max (start + sym alike.moved i) (last_count start (sym alike.told i)))
 
-  pub most_alike : most slot start own (share slot later) ≡ most slot start front later
+  pub most_alike : most slot start own (share slot later) ≡ most slot start prefix later
   most_alike =
       omega (
         arith,
         commands_both slot own (before_next_move slot (share slot later)),
-        commands_both slot front (before_next_move slot later),
+        commands_both slot prefix (before_next_move slot later),
         next_alike slot later,
         alike.commands,
       )
 
   pub lies_there : (told : Option ℕ)
       → IfSome told (λ count. (least slot start own ≤ count) × (count ≤ most slot start own (share slot later)))
-      → IfSome told (λ count. (least slot start front ≤ count) × (count ≤ most slot start front later))
+      → IfSome told (λ count. (least slot start prefix ≤ count) × (count ≤ most slot start prefix later))
   lies_there None lies = tt
   lies_there (Some count) lies =
       (omega (arith, lies.0, least_alike), omega (arith, lies.1, most_alike))
 
   pub lies_back : (told : Option ℕ)
-      → IfSome told (λ count. (least slot start front ≤ count) × (count ≤ most slot start front later))
+      → IfSome told (λ count. (least slot start prefix ≤ count) × (count ≤ most slot start prefix later))
       → IfSome told (λ count. (least slot start own ≤ count) × (count ≤ most slot start own (share slot later)))
   lies_back None lies = tt
   lies_back (Some count) lies =
       (omega (arith, lies.0, least_alike), omega (arith, lies.1, most_alike))
 
   pub within_there : (told : Option ℕ) → IfSome told (Within slot start own (share slot later))
-      → IfSome told (Within slot start front later)
+      → IfSome told (Within slot start prefix later)
   within_there None lies = tt
   within_there (Some count) lies =
       (omega (arith, lies.0, alike.moved), omega (arith, lies.1, most_alike))
 
 -- each within its bounds
 abbrev Lifts : (slot start : ℕ) → List LineTold → Type 0
-Lifts slot start rest = (n : ℕ) (front own : List LineTold) → AreAnswered n rest → Alike slot front own
-    → EachFrom (LiesWithin slot start) own (share slot rest) → EachFrom (LiesWithin slot start) front rest
+Lifts slot start rest = (n : ℕ) (prefix own : List LineTold) → AreAnswered n rest → Alike slot prefix own
+    → EachFrom (LiesWithin slot start) own (share slot rest) → EachFrom (LiesWithin slot start) prefix rest
 
 within_by : (slot start : ℕ) (now : LineTold) (rest : List LineTold) (test : Bool) → is_about slot now ≡ test
-    → Lifts slot start rest → (n : ℕ) (front own : List LineTold) → AreAnswered n (now ∷ rest) → Alike slot front own
+    → Lifts slot start rest → (n : ℕ) (prefix own : List LineTold) → AreAnswered n (now ∷ rest) → Alike slot prefix own
     → EachFrom (LiesWithin slot start) own (cond test (now ∷ share slot rest) (share slot rest))
-    → EachFrom (LiesWithin slot start) front (now ∷ rest)
-within_by slot start now rest true about again n front own are alike each = (
-  within_there slot start front own rest alike (commands_told slot now.entry) each.0,
-  again (n + 1) (front ++ now ∷ []) (own ++ now ∷ []) are.1 (alike_both slot front own now alike) each.1,
+    → EachFrom (LiesWithin slot start) prefix (now ∷ rest)
+within_by slot start now rest true about again n prefix own are alike each = (
+  within_there slot start prefix own rest alike (commands_told slot now.entry) each.0,
+  again (n + 1) (prefix ++ now ∷ []) (own ++ now ∷ []) are.1 (alike_both slot prefix own now alike) each.1,
 )
-within_by slot start now rest false away again n front own are alike each =
+within_by slot start now rest false away again n prefix own are alike each =
     let silent = silent_kind slot now (kind_of n slot now are.0) away in (
-      subst (λ told. IfSome told (Within slot start front rest)) (sym silent.tells) tt,
-      again (n + 1) (front ++ now ∷ []) own are.1 (alike_one slot front own now alike silent) each,
+      subst (λ told. IfSome told (Within slot start prefix rest)) (sym silent.tells) tt,
+      again (n + 1) (prefix ++ now ∷ []) own are.1 (alike_one slot prefix own now alike silent) each,
     )
 
 within_all : (slot start : ℕ) (rest : List LineTold) → Lifts slot start rest
-within_all slot start [] = λ n front own are alike each. tt
+within_all slot start [] = λ n prefix own are alike each. tt
 within_all slot start (now ∷ rest) =
     within_by slot start now rest (is_about slot now) refl (within_all slot start rest)
 
@@ -165,40 +165,40 @@ counts_all n slot start all are rise = record {
 }
 
 -- the first that isn't, behind some lines
-pub record FirstBehind (slot start : ℕ) (front lines : List LineTold) (told : Break) : Type 0 where
+pub record FirstBehind (slot start : ℕ) (prefix lines : List LineTold) (told : Break) : Type 0 where
   pub same : List LineTold
   pub now : LineTold
   pub later : List LineTold
   pub parts : lines ≡ same ++ now ∷ later
-  pub holds : EachUpTo (LiesBetween slot start) front same (now ∷ later)
-  pub broken : ¬ LiesBetween slot start (front ++ same) now later
+  pub holds : EachUpTo (LiesBetween slot start) prefix same (now ∷ later)
+  pub broken : ¬ LiesBetween slot start (prefix ++ same) now later
   pub is : told ≡ at_line now.entry
-      (decimal (least slot start (front ++ same)) ++ (codes " to " ++ decimal (most slot start (front ++ same) later)))
+      (decimal (least slot start (prefix ++ same)) ++ (codes " to " ++ decimal (most slot start (prefix ++ same) later)))
 
-abbrev BreaksAt : (slot start : ℕ) (told : Break) (front : List LineTold) (now : LineTold) (later : List LineTold) → Type 0
-BreaksAt slot start told front now later =
-    (¬ LiesBetween slot start front now later)
-    × (told ≡ at_line now.entry (decimal (least slot start front) ++ (codes " to " ++ decimal (most slot start front later))))
+abbrev BreaksAt : (slot start : ℕ) (told : Break) (prefix : List LineTold) (now : LineTold) (later : List LineTold) → Type 0
+BreaksAt slot start told prefix now later =
+    (¬ LiesBetween slot start prefix now later)
+    × (told ≡ at_line now.entry (decimal (least slot start prefix) ++ (codes " to " ++ decimal (most slot start prefix later))))
 
-breaks_there : (slot start : ℕ) (told : Break) (front own : List LineTold) (now : LineTold) (later : List LineTold)
-    → Alike slot front own → BreaksAt slot start told own now (share slot later)
-    → BreaksAt slot start told front now later
-breaks_there slot start told front own now later alike breaks = (
-  (λ lies. breaks.0 (lies_back slot start front own later alike (commands_told slot now.entry) lies)),
-  breaks.1 ∙ (λ i. at_line now.entry (decimal (least_alike slot start front own later alike i)
-      ++ (codes " to " ++ decimal (most_alike slot start front own later alike i)))),
+breaks_there : (slot start : ℕ) (told : Break) (prefix own : List LineTold) (now : LineTold) (later : List LineTold)
+    → Alike slot prefix own → BreaksAt slot start told own now (share slot later)
+    → BreaksAt slot start told prefix now later
+breaks_there slot start told prefix own now later alike breaks = (
+  (λ lies. breaks.0 (lies_back slot start prefix own later alike (commands_told slot now.entry) lies)),
+  breaks.1 ∙ (λ i. at_line now.entry (decimal (least_alike slot start prefix own later alike i)
+      ++ (codes " to " ++ decimal (most_alike slot start prefix own later alike i)))),
 )
 
 module _ (slot start : ℕ) (told : Break) where
   -- a line more before them
-  longer : (front : List LineTold) (first : LineTold) (rest : List LineTold)
-      → (behind : FirstBehind slot start (front ++ first ∷ []) rest told)
-      → LiesBetween slot start front first (behind.same ++ behind.now ∷ behind.later)
-      → FirstBehind slot start front (first ∷ rest) told
-  longer front first rest behind lies =
-      let apart : (front ++ first ∷ []) ++ behind.same ≡ front ++ (first ∷ behind.same) =
-      append_assoc front (first ∷ []) behind.same in
-      let breaks : BreaksAt slot start told (front ++ (first ∷ behind.same)) behind.now behind.later =
+  longer : (prefix : List LineTold) (first : LineTold) (rest : List LineTold)
+      → (behind : FirstBehind slot start (prefix ++ first ∷ []) rest told)
+      → LiesBetween slot start prefix first (behind.same ++ behind.now ∷ behind.later)
+      → FirstBehind slot start prefix (first ∷ rest) told
+  longer prefix first rest behind lies =
+      let apart : (prefix ++ first ∷ []) ++ behind.same ≡ prefix ++ (first ∷ behind.same) =
+      append_assoc prefix (first ∷ []) behind.same in
+      let breaks : BreaksAt slot start told (prefix ++ (first ∷ behind.same)) behind.now behind.later =
       subst (λ xs. BreaksAt slot start told xs behind.now behind.later) apart (behind.broken, behind.is) in
       record {
         same = first ∷ behind.same;
@@ -211,24 +211,24 @@ module _ (slot start : ℕ) (told : Break) where
       }
 
   abbrev pub Breaks : List LineTold → Type 0
-  Breaks rest = (n : ℕ) (front own same : List LineTold) (now : LineTold) (later : List LineTold)
-      → AreAnswered n rest → Alike slot front own → share slot rest ≡ same ++ now ∷ later
+  Breaks rest = (n : ℕ) (prefix own same : List LineTold) (now : LineTold) (later : List LineTold)
+      → AreAnswered n rest → Alike slot prefix own → share slot rest ≡ same ++ now ∷ later
       → EachUpTo (LiesBetween slot start) own same (now ∷ later)
-      → BreaksAt slot start told (own ++ same) now later → FirstBehind slot start front rest told
+      → BreaksAt slot start told (own ++ same) now later → FirstBehind slot start prefix rest told
 
   -- at this line
-  breaks_here : (front own : List LineTold) (x : LineTold) (rest : List LineTold) (now : LineTold) (later : List LineTold)
-      → Alike slot front own → x ∷ share slot rest ≡ now ∷ later → BreaksAt slot start told own now later
-      → FirstBehind slot start front (x ∷ rest) told
-  breaks_here front own x rest now later alike is it =
+  breaks_here : (prefix own : List LineTold) (x : LineTold) (rest : List LineTold) (now : LineTold) (later : List LineTold)
+      → Alike slot prefix own → x ∷ share slot rest ≡ now ∷ later → BreaksAt slot start told own now later
+      → FirstBehind slot start prefix (x ∷ rest) told
+  breaks_here prefix own x rest now later alike is it =
       let first : now ≡ x = cc in
       let others : later ≡ share slot rest = cc in
       let own_breaks : BreaksAt slot start told own x (share slot rest) =
       subst (λ y. BreaksAt slot start told own y (share slot rest)) first
       (subst (λ ys. BreaksAt slot start told own now ys) others it) in
-      let at : BreaksAt slot start told (front ++ []) x rest =
-      subst (λ xs. BreaksAt slot start told xs x rest) (sym (append-nil front))
-      (breaks_there slot start told front own x rest alike own_breaks) in
+      let at : BreaksAt slot start told (prefix ++ []) x rest =
+      subst (λ xs. BreaksAt slot start told xs x rest) (sym (append-nil prefix))
+      (breaks_there slot start told prefix own x rest alike own_breaks) in
       record {
         same = [];
         now = x;
@@ -241,22 +241,22 @@ module _ (slot start : ℕ) (told : Break) where
 
   -- or behind it
   first_by : (x : LineTold) (rest : List LineTold) (test : Bool) → is_about slot x ≡ test → Breaks rest
-      → (n : ℕ) (front own same : List LineTold) (now : LineTold) (later : List LineTold)
-      → AreAnswered n (x ∷ rest) → Alike slot front own
+      → (n : ℕ) (prefix own same : List LineTold) (now : LineTold) (later : List LineTold)
+      → AreAnswered n (x ∷ rest) → Alike slot prefix own
       → cond test (x ∷ share slot rest) (share slot rest) ≡ same ++ now ∷ later
       → EachUpTo (LiesBetween slot start) own same (now ∷ later)
-      → BreaksAt slot start told (own ++ same) now later → FirstBehind slot start front (x ∷ rest) told
-  first_by x rest false away again n front own same now later are alike is holds breaks =
+      → BreaksAt slot start told (own ++ same) now later → FirstBehind slot start prefix (x ∷ rest) told
+  first_by x rest false away again n prefix own same now later are alike is holds breaks =
       let silent = silent_kind slot x (kind_of n slot x are.0) away in
-      let behind = again (n + 1) (front ++ x ∷ []) own same now later are.1 (alike_one slot front own x alike silent) is
+      let behind = again (n + 1) (prefix ++ x ∷ []) own same now later are.1 (alike_one slot prefix own x alike silent) is
       holds breaks in
-      longer front x rest behind
-      (subst (λ count. IfSome count (λ k. (least slot start front ≤ k)
-      × (k ≤ most slot start front (behind.same ++ behind.now ∷ behind.later)))) (sym silent.tells) tt)
-  first_by x rest true about again n front own [] now later are alike is holds breaks =
-      breaks_here front own x rest now later alike is
+      longer prefix x rest behind
+      (subst (λ count. IfSome count (λ k. (least slot start prefix ≤ k)
+      × (k ≤ most slot start prefix (behind.same ++ behind.now ∷ behind.later)))) (sym silent.tells) tt)
+  first_by x rest true about again n prefix own [] now later are alike is holds breaks =
+      breaks_here prefix own x rest now later alike is
       (subst (λ xs. BreaksAt slot start told xs now later) (append-nil own) breaks)
-  first_by x rest true about again n front own (y ∷ same) now later are alike is holds breaks =
+  first_by x rest true about again n prefix own (y ∷ same) now later are alike is holds breaks =
       let first : y ≡ x = cc in
       let others : share slot rest ≡ same ++ now ∷ later = cc in
       let lies : LiesBetween slot start own x (same ++ now ∷ later) =
@@ -266,25 +266,25 @@ module _ (slot start : ℕ) (told : Break) where
       let breaks_at : BreaksAt slot start told ((own ++ x ∷ []) ++ same) now later =
       subst (λ xs. BreaksAt slot start told xs now later) (sym (append_assoc own (x ∷ []) same))
       (subst (λ z. BreaksAt slot start told (own ++ (z ∷ same)) now later) first breaks) in
-      let behind = again (n + 1) (front ++ x ∷ []) (own ++ x ∷ []) same now later are.1
-      (alike_both slot front own x alike) others each breaks_at in
-      longer front x rest behind
-      (subst (λ xs. LiesBetween slot start front x xs) behind.parts
-      (lies_there slot start front own rest alike (commands_told slot x.entry)
+      let behind = again (n + 1) (prefix ++ x ∷ []) (own ++ x ∷ []) same now later are.1
+      (alike_both slot prefix own x alike) others each breaks_at in
+      longer prefix x rest behind
+      (subst (λ xs. LiesBetween slot start prefix x xs) behind.parts
+      (lies_there slot start prefix own rest alike (commands_told slot x.entry)
       (subst (λ xs. LiesBetween slot start own x xs) (sym others) lies)))
 
   pub first_all : (rest : List LineTold) → Breaks rest
-  first_all [] = λ n front own same now later are alike parts holds breaks.
+  first_all [] = λ n prefix own same now later are alike parts holds breaks.
       absurd (omega (arith, ap length parts, length-append same (now ∷ later)))
   first_all (x ∷ rest) = first_by x rest (is_about slot x) refl (first_all rest)
 
 pub first_count : (n slot start : ℕ) (all : List LineTold) (told : Break) → AreAnswered n all
     → FirstCount slot start (share slot all) told → FirstCount slot start all told
 first_count n slot start all told are first =
-    let behind = first_all slot start told all n [] [] first.front first.now first.later are
+    let behind = first_all slot start told all n [] [] first.prefix first.now first.later are
     (record { commands = refl; moved = refl; told = refl }) first.parts first.holds (first.broken, first.is) in
     record {
-      front = behind.same;
+      prefix = behind.same;
       now = behind.now;
       later = behind.later;
       parts = behind.parts;

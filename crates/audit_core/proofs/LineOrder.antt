@@ -32,7 +32,7 @@ line_is n (packet slot p) (line.P judged) answers = answers.0
 line_is n (packet slot p) (line.F refused) answers = ap (λ (x : Refusal). x.line) answers
 
 -- those of a number
-abbrev with_number : ℕ → List LineEntry → List LineEntry
+abbrev pub with_number : ℕ → List LineEntry → List LineEntry
 with_number k entries = filter (λ of_line. line_of of_line == k) entries
 
 -- none of them has a lower one
@@ -55,7 +55,7 @@ same_from f g first (suc n) agree =
     ap (λ xs. xs ++ flat_map f (counted (first + 1) n)) (agree first (omega arith))
     ∙ ap (λ xs. g first ++ xs) (same_from f g (first + 1) n (λ k above. agree k (omega (arith, above))))
 
-each_number : (n : ℕ) (made : List Meaning) (entries : List LineEntry) → AnswersAll n made entries
+pub each_number : (n : ℕ) (made : List Meaning) (entries : List LineEntry) → AnswersAll n made entries
     → flat_map (λ k. with_number k entries) (counted n (length made)) ≡ entries
 each_number n [] [] answers = refl
 each_number n [] (entry ∷ entries) answers = absurd answers

@@ -11,12 +11,12 @@ use Rattle.audit_core.specs.Holding.{EpochsAnswered, meanings_told}
 use Rattle.audit_core.proofs.AnswerLemmas.{answers_true, true_answers}
 
 -- the first lines, and those behind them
-pub answers_front : (n : ℕ) (made more : List Meaning) (entries : List LineEntry) → AnswersAll n (made ++ more) entries
+pub answers_prefix : (n : ℕ) (made more : List Meaning) (entries : List LineEntry) → AnswersAll n (made ++ more) entries
     → AnswersAll n made (take (length made) entries)
-answers_front n [] more entries answer = tt
-answers_front n (now ∷ made) more [] answer = absurd answer
-answers_front n (now ∷ made) more (entry ∷ entries) answer =
-    (answer.0, answers_front (n + 1) made more entries answer.1)
+answers_prefix n [] more entries answer = tt
+answers_prefix n (now ∷ made) more [] answer = absurd answer
+answers_prefix n (now ∷ made) more (entry ∷ entries) answer =
+    (answer.0, answers_prefix (n + 1) made more entries answer.1)
 
 pub answers_rest : (n : ℕ) (made more : List Meaning) (entries : List LineEntry) → AnswersAll n (made ++ more) entries
     → AnswersAll (n + length made) more (drop (length made) entries)
@@ -32,13 +32,13 @@ pub answers_both : (n : ℕ) (made more : List Meaning) (entries : List LineEntr
     → AnswersAll n made (take (length made) entries)
     → AnswersAll (n + length made) more (drop (length made) entries)
     → AnswersAll n (made ++ more) entries
-answers_both n [] more entries front rest =
+answers_both n [] more entries prefix rest =
     let number : n + 0 ≡ n = omega arith in subst (λ k. AnswersAll k more entries) number rest
-answers_both n (now ∷ made) more [] front rest = absurd front
-answers_both n (now ∷ made) more (entry ∷ entries) front rest =
+answers_both n (now ∷ made) more [] prefix rest = absurd prefix
+answers_both n (now ∷ made) more (entry ∷ entries) prefix rest =
     let number : n + suc (length made) ≡ n + 1 + length made = omega arith in (
-      front.0,
-      answers_both (n + 1) made more entries front.1
+      prefix.0,
+      answers_both (n + 1) made more entries prefix.1
           (subst (λ k. AnswersAll k more (drop (length made) entries)) number rest),
     )
 
@@ -90,7 +90,7 @@ all_match n before (made ∷ epochs) entries answer =
     let lines = lines_told made (take (length made) entries) in
     let left = drop (length made) entries in
     ap (then_all (λ own. matched_all (n + length made) (before ++ own ∷ []) epochs left))
-    (matches n [] made entries (answers_front n made (all_lines epochs) entries answer))
+    (matches n [] made entries (answers_prefix n made (all_lines epochs) entries answer))
     ∙ all_match (n + length made) (before ++ lines ∷ []) epochs left
     (answers_rest n made (all_lines epochs) entries answer)
     ∙ ap (λ told. Some told) (append_assoc before (lines ∷ []) (cut epochs left))
@@ -141,10 +141,10 @@ pub cut_answered : (n : ℕ) (epochs : List (List Meaning)) (entries : List Line
     → AnswersAll n (all_lines epochs) entries → EpochsAnswered n (cut epochs entries)
 cut_answered n [] entries answer = tt
 cut_answered n (made ∷ epochs) entries answer =
-    let front = answers_front n made (all_lines epochs) entries answer in (
-      are_answered n made (take (length made) entries) front,
+    let prefix = answers_prefix n made (all_lines epochs) entries answer in (
+      are_answered n made (take (length made) entries) prefix,
       subst (λ k. EpochsAnswered (n + k) (cut epochs (drop (length made) entries)))
-          (sym (length-told n made (take (length made) entries) front))
+          (sym (length-told n made (take (length made) entries) prefix))
           (cut_answered (n + length made) epochs (drop (length made) entries)
           (answers_rest n made (all_lines epochs) entries answer)),
     )
@@ -153,7 +153,7 @@ pub cut_means : (n : ℕ) (epochs : List (List Meaning)) (entries : List LineEnt
     → AnswersAll n (all_lines epochs) entries → meanings_told (cut epochs entries) ≡ epochs
 cut_means n [] entries answer = refl
 cut_means n (made ∷ epochs) entries answer =
-    (λ i. meanings-told n made (take (length made) entries) (answers_front n made (all_lines epochs) entries answer) i
+    (λ i. meanings-told n made (take (length made) entries) (answers_prefix n made (all_lines epochs) entries answer) i
     ∷ cut_means (n + length made) epochs (drop (length made) entries)
     (answers_rest n made (all_lines epochs) entries answer) i)
 

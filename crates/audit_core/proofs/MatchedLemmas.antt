@@ -3,10 +3,11 @@ use Rattle.std.proofs.Common.{◌≡◌, ℕ, ◌+◌, ◌<◌, Some, None, List
 use Rattle.std.specs.Borrow.{Bor}
 use Rattle.std.proofs.lemmas.List.{get_or-map, length-map}
 use Rattle.report_lines.specs.declared.entry.LineEntry.{LineEntry}
-use Rattle.audit_core.specs.Kept.{ArePlaced, IsPlaced, meaning_in, meanings_in}
+use Rattle.slot_execution.specs.Kept.{IsPlaced, meaning_in}
+use Rattle.audit_core.specs.Kept.{ArePlaced, meanings_in}
 use Rattle.audit_core.specs.Matched.{AreFound, IsFound, lent_entry, of_number}
 use Rattle.audit_core.specs.Places.{first_of}
-use Rattle.audit_core.specs.declared.kept.KeptMeaning.{KeptMeaning}
+use Rattle.slot_execution.specs.declared.kept.KeptMeaning.{KeptMeaning}
 use Rattle.audit_core.specs.declared.matching.FoundEntry.{FoundEntry}
 use Rattle.audit_core.proofs.MetLemmas.{none_over, some_over}
 

@@ -73,7 +73,7 @@ module _ (first : ℕ) (made : List Meaning) (entries : List LineEntry) (i : ℕ
       let entry = (line_told one).entry in
       let nothing : met.over ≡ [] = none_over met.over (sym none ∙ met.again_is) in
       let len : length (take i made) ≡ i = length-take-le i made (omega (arith, within)) in
-      let front : take (i + 1) made ≡ take i made ++ now ∷ [] = take_more made i now within
+      let prefix : take (i + 1) made ≡ take i made ++ now ∷ [] = take_more made i now within
       ∙ ap (λ m. take i made ++ m ∷ []) (sym is) in
       let here : Answers (first + length (take i made)) now entry =
       subst (λ k. Answers (first + k) now entry) (sym len) answers in
@@ -85,11 +85,11 @@ module _ (first : ℕ) (made : List Meaning) (entries : List LineEntry) (i : ℕ
             ∙ ap (λ l. l ++ of_number (first + i) entries) (append-nil met.answers)
             ∙ ap (λ l. met.answers ++ l) own
             ∙ sym (append_assoc met.answers (entry ∷ []) more);
-        each = subst (λ l. AnswersAll first l (met.answers ++ entry ∷ [])) (sym front)
+        each = subst (λ l. AnswersAll first l (met.answers ++ entry ∷ [])) (sym prefix)
             (answers_more first (take i made) met.answers now entry met.each here);
         told = map_push line_told lines one ∙ ap (λ l. l ++ line_told one ∷ []) met.told
             ∙ sym (told_more first (take i made) met.answers now entry met.each)
-            ∙ ap (λ l. lines_told l (met.answers ++ entry ∷ [])) (sym front);
+            ∙ ap (λ l. lines_told l (met.answers ++ entry ∷ [])) (sym prefix);
         stand = All-push StandsTold lines one met.stand stands;
         again_is = refl;
         earlier = more_earlier (of_number (first + i) entries) entry more own (numbers_own (first + i) entries);

@@ -1,7 +1,6 @@
 -- Moves of a slot, with one line more.
-use Rattle.std.proofs.Common.{◌≡◌, ℕ, ◌+◌, ◌||◌, Bool, true, false, Option, Some, None, List, [], ◌∷◌, ◌++◌, length, cond, refl, ap, ◌∙◌, arith, length-append}
+use Rattle.std.proofs.Common.{◌≡◌, ℕ, ◌+◌, ◌||◌, Bool, true, false, Option, Some, None, List, [], ◌∷◌, ◌++◌, length, cond, refl, ap, ◌∙◌, arith}
 use Rattle.std.specs.List.{cons_option}
-use Rattle.std.proofs.lemmas.List.Elements.{filter_map-append}
 use Rattle.lawful_run.specs.Accepted.{accepted_command, commands_accepted, command_count}
 use Rattle.lawful_run.specs.LinesTold.{LineTold}
 use Rattle.lawful_run.specs.Moves.{moves, is_moved, before_last_move}
@@ -38,10 +37,6 @@ before_this_move slot (first ∷ lines) now moved =
 -- how many commands a line adds
 abbrev pub some_count : {X : Type 0} → Option X → ℕ
 some_count x = length (cons_option x [])
-
-pub count_push : (slot : ℕ) (front : List LineTold) (now : LineTold)
-    → command_count slot (front ++ now ∷ []) ≡ command_count slot front + some_count (accepted_command slot now)
-count_push slot front now = simp (filter_map-append, length-append)
 
 count_cons : {X : Type 0} (x : Option X) (xs : List X) → length (cons_option x xs) ≡ some_count x + length xs
 count_cons None xs = omega arith

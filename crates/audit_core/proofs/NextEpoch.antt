@@ -19,7 +19,8 @@ use Rattle.subscriber.specs.Standing.{SubscriberState, commands_met}
 use Rattle.audit_core.specs.Entries.{all_lines, epoch_at, line_entries}
 use Rattle.audit_core.specs.Holding.{AreKnownTold, IsKnown}
 use Rattle.audit_core.specs.Judged.{Before, Case, ComeLater, ComesNext, Epoch, HasCounted, HasJudged, IsEpochOf, IsJudgedTo, IsLedTo, IsTold, IsToldNext, Partly, RestsBehind, StandsBehind, With, asked_of, histories_at, offered}
-use Rattle.audit_core.specs.Kept.{meaning_in, meanings_in}
+use Rattle.slot_execution.specs.Kept.{meaning_in}
+use Rattle.audit_core.specs.Kept.{meanings_in}
 use Rattle.audit_core.specs.Matched.{MatchesAll, UnansweredIn, entries_stood, in_range}
 use Rattle.audit_core.specs.Meant.{line_told, lines_of}
 use Rattle.audit_core.specs.OfSlot.{AreAnswered}
@@ -29,7 +30,7 @@ use Rattle.audit_core.specs.Sentences.{behind_epochs}
 use Rattle.audit_core.specs.Setups.{setup_of}
 use Rattle.audit_core.specs.Walking.{FewBefore, HasWalked}
 use Rattle.audit_core.specs.declared.judge.Judge.{Judge}
-use Rattle.audit_core.specs.declared.kept.KeptMeaning.{KeptMeaning}
+use Rattle.slot_execution.specs.declared.kept.KeptMeaning.{KeptMeaning}
 use Rattle.audit_core.specs.declared.report.Report.{Report}
 use Rattle.audit_core.specs.declared.report.Stood.{Stood}
 use Rattle.audit_core.specs.declared.sentence.Sentence.TheVariants as of
@@ -47,14 +48,14 @@ use Rattle.audit_core.proofs.JudgeSteps.{answered_so, judged_more, unanswered_en
 use Rattle.audit_core.proofs.OfferLemmas.{all_done}
 
 -- what lines with as many entries mean, and the entries
-told_means : (made : List Meaning) (entries : List LineEntry) → length entries ≡ length made
+pub told_means : (made : List Meaning) (entries : List LineEntry) → length entries ≡ length made
     → map (λ (told : LineTold). told.meaning) (lines_told made entries) ≡ made
 told_means [] entries many = refl
 told_means (now ∷ made) [] many = absurd (omega (arith, many))
 told_means (now ∷ made) (one ∷ entries) many =
     ap (λ (l : List Meaning). now ∷ l) (told_means made entries (omega (arith, many)))
 
-told_has : (made : List Meaning) (entries : List LineEntry) → length entries ≡ length made
+pub told_has : (made : List Meaning) (entries : List LineEntry) → length entries ≡ length made
     → map (λ (told : LineTold). told.entry) (lines_told made entries) ≡ entries
 told_has [] [] many = refl
 told_has [] (one ∷ entries) many = absurd (omega (arith, many))
@@ -66,7 +67,7 @@ module _ (own : Case) (at : Epoch) (octets : List ℕ) (lines : List KeptMeaning
     (subscribers : List SubscriberState) (judge : Judge)
     (next : ComesNext own at octets lines report entries subscribers judge) where
   abbrev first : ℕ
-  first = length (all_lines at.front) + 1
+  first = length (all_lines at.prefix) + 1
 
   abbrev its : List LineEntry
   its = in_range first (length at.now) (line_entries own.entries)
@@ -74,9 +75,9 @@ module _ (own : Case) (at : Epoch) (octets : List ℕ) (lines : List KeptMeaning
   -- the entries that were read of its lines are all that there are
   range_is : in_range first (length at.now) (line_entries (entries_stood entries)) ≡ its
   range_is =
-      range_belongs own.made own.entries entries (length at.front) first (length at.now)
+      range_belongs own.made own.entries entries (length at.prefix) first (length at.now)
       (λ n low high. ap (λ made. epoch_at made n) next.judged.parts
-      ∙ epoch_of_line at.front at.now at.left n low high) next.next.those
+      ∙ epoch_of_line at.prefix at.now at.left n low high) next.next.those
 
   pub count_is : judge.lines + 1 ≡ first
   count_is = ap (λ k. k + 1) next.judged.lines
@@ -137,7 +138,7 @@ module _ (own : Case) (at : Epoch) (octets : List ℕ) (lines : List KeptMeaning
         )
 
     pub broken_next : new.lines ≡ judge.lines + length lines
-        → HasJudged own (at.front ++ at.now ∷ []) at.left (at.told ++ at.here ∷ []) at.later new
+        → HasJudged own (at.prefix ++ at.now ∷ []) at.left (at.told ++ at.here ∷ []) at.later new
     broken_next lines_is =
         let many : length lines ≡ length at.now =
         sym (length-map lines (meaning_in octets)) ∙ ap length next.next.means in
@@ -159,7 +160,7 @@ module _ (own : Case) (at : Epoch) (lines : List ToldLine) (report : Report) (en
     (told : IsTold own at lines report entries) where
   pub with_answers : Before own at of.Answers → With own at of.Answers
   with_answers before =
-      let first = length (all_lines at.front) + 1 in
+      let first = length (all_lines at.prefix) + 1 in
       answers_with own at told.epoch.parts before
       (subst (λ (m : List Meaning). AnswersAll first m
       (in_range first (length at.now) (line_entries own.entries))) told.means
@@ -171,17 +172,17 @@ module _ (own : Case) (at : Epoch) (lines : List ToldLine) (report : Report) (en
       sym (length-map lines line_told) ∙ ap length told.is
       ∙ sym (length-map at.here (λ (t : LineTold). t.meaning)) ∙ ap length told.means
 
-  pub lines_few : length (all_lines at.front) + length lines < 2 ^ 40
+  pub lines_few : length (all_lines at.prefix) + length lines < 2 ^ 40
   lines_few =
       let whole : length (all_lines own.made)
-      ≡ length (all_lines at.front) + (length at.now + length (all_lines at.left)) =
+      ≡ length (all_lines at.prefix) + (length at.now + length (all_lines at.left)) =
       ap length (ap all_lines told.epoch.parts
-      ∙ flat_map-append (λ (made : List Meaning). made) at.front (at.now ∷ at.left))
-      ∙ length-append (all_lines at.front) (at.now ++ all_lines at.left)
-      ∙ ap (λ k. length (all_lines at.front) + k) (length-append at.now (all_lines at.left)) in
+      ∙ flat_map-append (λ (made : List Meaning). made) at.prefix (at.now ∷ at.left))
+      ∙ length-append (all_lines at.prefix) (at.now ++ all_lines at.left)
+      ∙ ap (λ k. length (all_lines at.prefix) + k) (length-append at.now (all_lines at.left)) in
       omega (arith, whole, told.few, lines_many)
 
-known_told : (slots : ℕ) (lines : List LineTold) (made : List Meaning)
+pub known_told : (slots : ℕ) (lines : List LineTold) (made : List Meaning)
     → map (λ (t : LineTold). t.meaning) lines ≡ made → All (IsKnown slots) made → AreKnownTold slots lines
 known_told slots [] made is all = All-nil (λ (t : LineTold). IsKnown slots t.meaning)
 known_told slots (now ∷ lines) [] is all = absurd (cc)
@@ -193,20 +194,20 @@ known_told slots (now ∷ lines) (one ∷ made) is all =
     (known_told slots lines made rest (All-tail (IsKnown slots) one made all))
 
 -- no packet of it is late, nor of those behind it
-late_told : (latest : ℕ) (lines : List LineTold) (more : List Meaning)
+pub late_told : (latest : ℕ) (lines : List LineTold) (more : List Meaning)
     → ComeLater latest (map (λ (t : LineTold). t.meaning) lines ++ more)
     → AreLate latest lines × ComeLater (latest_of latest lines) more
 late_told latest [] more later = (tt, later)
 late_told latest (now ∷ lines) more later =
     let rest = late_told (moment_behind latest now.meaning) lines more later.1 in ((later.0, rest.0), rest.1)
 
-few_commands : (slices count latest slot : ℕ) (subscriber : SubscriberState) (n : ℕ)
+pub few_commands : (slices count latest slot : ℕ) (subscriber : SubscriberState) (n : ℕ)
     → IsAtRest slices count latest slot subscriber → count + n < 2 ^ 40 → commands_met subscriber + n < 2 ^ 62
 few_commands slices count latest slot subscriber n rest few =
     ∥∥₁_elim rest.has_events (hlevel props) (λ (has : HasEvents slot count subscriber).
     omega (arith, has.represents.commands, has.few, few, some_most as_command has.events))
 
-few_packets : (slices count latest slot : ℕ) (subscriber : SubscriberState) (n : ℕ)
+pub few_packets : (slices count latest slot : ℕ) (subscriber : SubscriberState) (n : ℕ)
     → IsAtRest slices count latest slot subscriber → count + n < 2 ^ 40 → subscriber.packets + n < 2 ^ 62
 few_packets slices count latest slot subscriber n rest few =
     ∥∥₁_elim rest.has_events (hlevel props) (λ (has : HasEvents slot count subscriber).
@@ -216,7 +217,7 @@ few_packets slices count latest slot subscriber n rest few =
 module _ (own : Case) (at : Epoch) (lines : List ToldLine) (report : Report) (entries : List Stood)
     (told : IsTold own at lines report entries) (subscribers : List SubscriberState) (count : ℕ)
     (rests : RestsBehind own at.told (at.now ∷ at.left) subscribers count)
-    (count_is : count ≡ length (all_lines at.front)) where
+    (count_is : count ≡ length (all_lines at.prefix)) where
   few : count + length lines < 2 ^ 40
   few = omega (arith, count_is, lines_few own at lines report entries told)
 
@@ -246,8 +247,8 @@ module _ (own : Case) (at : Epoch) (lines : List ToldLine) (report : Report) (en
   pub late_lines : AreLate rests.latest (lines_of lines)
   late_lines = subst (AreLate rests.latest) (sym told.is) late.0
 
-  pub answered_lines : AreAnswered (length (all_lines at.front) + 1) (lines_of lines)
-  answered_lines = subst (AreAnswered (length (all_lines at.front) + 1)) (sym told.is) told.answered
+  pub answered_lines : AreAnswered (length (all_lines at.prefix) + 1) (lines_of lines)
+  answered_lines = subst (AreAnswered (length (all_lines at.prefix) + 1)) (sym told.is) told.answered
 
   pub plays_on : (slices latest : ℕ) × AreAtRest slices count latest subscribers × AreLate latest (lines_of lines)
       × (count + length lines < 2 ^ 40)
@@ -289,7 +290,7 @@ module _ (own : Case) (at : Epoch) (lines : List ToldLine) (report : Report) (en
   abbrev epoch : IsEpochOf own at entries
   epoch = next.told.epoch
 
-  count_new : new.lines ≡ length (all_lines at.front) + length at.now
+  count_new : new.lines ≡ length (all_lines at.prefix) + length at.now
   count_new = omega (arith, lines_is, next.judged.lines, lines_many own at lines report entries next.told)
 
   three : Partly own (Before own at) (With own at) 3 judge.broken
@@ -299,7 +300,7 @@ module _ (own : Case) (at : Epoch) (lines : List ToldLine) (report : Report) (en
 
   -- where no more is asked than whether lines are answered
   pub low_next : new.broken ≡ judge.broken → asked_of judge.broken ≤ 3
-      → HasJudged own (at.front ++ at.now ∷ []) at.left (at.told ++ at.here ∷ []) at.later new
+      → HasJudged own (at.prefix ++ at.now ∷ []) at.left (at.told ++ at.here ∷ []) at.later new
   low_next same low =
       judged_more own at epoch.parts epoch.told_parts epoch.as_many new count_new
       (subst (Partly own (Before own at) (With own at) 11) (sym same)
@@ -319,7 +320,7 @@ module _ (own : Case) (at : Epoch) (lines : List ToldLine) (report : Report) (en
 
   pub whole_next : Partly own (Before own at) (With own at) 11 new.broken
       → HasCounted own (at.told ++ at.here ∷ []) new
-      → HasJudged own (at.front ++ at.now ∷ []) at.left (at.told ++ at.here ∷ []) at.later new
+      → HasJudged own (at.prefix ++ at.now ∷ []) at.left (at.told ++ at.here ∷ []) at.later new
   whole_next partly counted =
       judged_more own at epoch.parts epoch.told_parts epoch.as_many new count_new partly counted
 

@@ -56,7 +56,7 @@ module _ {X : Type 0} (belongs : ℕ → Entry → Option X) (epoch : ℕ)
       let next = epoch_behind made now first in
       let head : filter_map (belongs now) (first ∷ []) ≡ [] =
       ap (λ o. cons_option o []) (only now first (apart now here)) in
-      ap (λ (front : List X). front ++ told_in_epoch belongs made next later) head
+      ap (λ (prefix : List X). prefix ++ told_in_epoch belongs made next later) head
       ∙ none_told next later (All-tail (IsLine (length (all_lines made))) first later known)
       (behind_is made now first (All-head (IsLine (length (all_lines made))) first later known) here)
 

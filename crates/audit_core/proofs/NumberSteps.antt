@@ -14,7 +14,7 @@ use Rattle.lawful_run.specs.Bounds.{count_in_sequence}
 use Rattle.lawful_run.specs.LinesTold.{LineTold}
 use Rattle.lawful_run.specs.Merging.{Histories}
 use Rattle.lawful_run.specs.Telling.{command_number, counted, packet_number}
-use Rattle.audit_core.specs.Fronts.{number_due}
+use Rattle.audit_core.specs.FirstLines.{number_due}
 use Rattle.audit_core.specs.Meant.{is_about, is_about_by, slot_in}
 use Rattle.audit_core.specs.Sentences.{AreNumbered}
 use Rattle.audit_core.specs.Walking.{missed_by, number_missed}
@@ -31,40 +31,40 @@ module _ {Y : Type 0} (tell : LineTold → Option ℕ) (take_ : LineTold → Opt
   abbrev IsRight : List LineTold → Type 0
   IsRight lines = filter_map tell lines ≡ counted start (length (filter_map take_ lines))
 
-  module _ (front : List LineTold) (now : LineTold) where
+  module _ (prefix : List LineTold) (now : LineTold) where
     told-push : (k : Option ℕ) → tell now ≡ k
-        → filter_map tell (front ++ now ∷ []) ≡ filter_map tell front ++ cons_option k []
+        → filter_map tell (prefix ++ now ∷ []) ≡ filter_map tell prefix ++ cons_option k []
     told-push k is =
-        filter_map-append tell front (now ∷ []) ∙ ap (λ o. filter_map tell front ++ cons_option o []) is
+        filter_map-append tell prefix (now ∷ []) ∙ ap (λ o. filter_map tell prefix ++ cons_option o []) is
 
     taken-push : (y : Option Y) → take_ now ≡ y
-        → length (filter_map take_ (front ++ now ∷ [])) ≡ length (filter_map take_ front) + length (cons_option y [])
+        → length (filter_map take_ (prefix ++ now ∷ [])) ≡ length (filter_map take_ prefix) + length (cons_option y [])
     taken-push y is =
-        ap length (filter_map-append take_ front (now ∷ []) ∙ ap (λ o. filter_map take_ front ++ cons_option o []) is)
-        ∙ length-append (filter_map take_ front) (cons_option y [])
+        ap length (filter_map-append take_ prefix (now ∷ []) ∙ ap (λ o. filter_map take_ prefix ++ cons_option o []) is)
+        ∙ length-append (filter_map take_ prefix) (cons_option y [])
 
-    right_quiet : tell now ≡ None → take_ now ≡ None → IsRight front → IsRight (front ++ now ∷ [])
+    right_quiet : tell now ≡ None → take_ now ≡ None → IsRight prefix → IsRight (prefix ++ now ∷ [])
     right_quiet none nothing right =
-        let count : length (filter_map take_ front) ≡ length (filter_map take_ (front ++ now ∷ [])) =
+        let count : length (filter_map take_ prefix) ≡ length (filter_map take_ (prefix ++ now ∷ [])) =
         omega (arith, taken-push None nothing) in
-        told-push None none ∙ append-nil (filter_map tell front) ∙ right ∙ ap (counted start) count
+        told-push None none ∙ append-nil (filter_map tell prefix) ∙ right ∙ ap (counted start) count
 
     module _ (k : ℕ) (y : Y) (told : tell now ≡ Some k) (took : take_ now ≡ Some y) where
-      one_more : suc (length (filter_map take_ front)) ≡ length (filter_map take_ (front ++ now ∷ []))
+      one_more : suc (length (filter_map take_ prefix)) ≡ length (filter_map take_ (prefix ++ now ∷ []))
       one_more = omega (arith, taken-push (Some y) took)
 
-      right_more : k ≡ start + length (filter_map take_ front) → IsRight front → IsRight (front ++ now ∷ [])
+      right_more : k ≡ start + length (filter_map take_ prefix) → IsRight prefix → IsRight (prefix ++ now ∷ [])
       right_more next right =
           told-push (Some k) told ∙ (λ i. right i ++ next i ∷ [])
-          ∙ sym (counted-push start (length (filter_map take_ front))) ∙ ap (counted start) one_more
+          ∙ sym (counted-push start (length (filter_map take_ prefix))) ∙ ap (counted start) one_more
 
-      right_is : IsRight front → IsRight (front ++ now ∷ []) → k ≡ start + length (filter_map take_ front)
+      right_is : IsRight prefix → IsRight (prefix ++ now ∷ []) → k ≡ start + length (filter_map take_ prefix)
       right_is right whole =
-          let due = start + length (filter_map take_ front) in
-          let both : filter_map tell front ++ k ∷ [] ≡ filter_map tell front ++ due ∷ [] =
+          let due = start + length (filter_map take_ prefix) in
+          let both : filter_map tell prefix ++ k ∷ [] ≡ filter_map tell prefix ++ due ∷ [] =
           sym (told-push (Some k) told) ∙ whole ∙ ap (counted start) (sym one_more)
-          ∙ counted-push start (length (filter_map take_ front)) ∙ ap (λ l. l ++ due ∷ []) (sym right) in
-          let last : k ∷ [] ≡ due ∷ [] = append_cancel_left (filter_map tell front) (k ∷ []) (due ∷ []) both in
+          ∙ counted-push start (length (filter_map take_ prefix)) ∙ ap (λ l. l ++ due ∷ []) (sym right) in
+          let last : k ∷ [] ≡ due ∷ [] = append_cancel_left (filter_map tell prefix) (k ∷ []) (due ∷ []) both in
           let same : k ≡ due = cc in
           same
 
@@ -88,39 +88,39 @@ never_missed : (told due found : ℕ) → told ≡ due → missed_by told due �
 never_missed told due found same is =
     let none : None ≡ Some found = sym (ap (λ t. if t then None else Some due) (eq-eqb told due same)) ∙ is in cc
 
-module _ (histories : Histories) (front : List LineTold) (now : LineTold) where
+module _ (histories : Histories) (prefix : List LineTold) (now : LineTold) where
   -- the next numbers of a slot
   abbrev next_command : ℕ → ℕ
-  next_command slot = length (commands_of (histories slot)) + command_count slot front
+  next_command slot = length (commands_of (histories slot)) + command_count slot prefix
 
   abbrev next_packet : ℕ → ℕ
-  next_packet slot = length (packets_of (histories slot)) + length (packets_accepted slot front)
+  next_packet slot = length (packets_of (histories slot)) + length (packets_accepted slot prefix)
 
   abbrev missed : ℕ → Option ℕ
   missed slot = number_missed (next_command slot) (next_packet slot) now.entry
 
   module _ (slot : ℕ) where
     quiet_commands : command_number slot now.entry ≡ None → accepted_command slot now ≡ None
-        → AreNumbered histories front
-        → filter_map (λ (told : LineTold). command_number slot told.entry) (front ++ now ∷ [])
+        → AreNumbered histories prefix
+        → filter_map (λ (told : LineTold). command_number slot told.entry) (prefix ++ now ∷ [])
         ≡ counted (length (commands_of (histories slot)))
-        (length (filter_map (accepted_command slot) (front ++ now ∷ [])))
+        (length (filter_map (accepted_command slot) (prefix ++ now ∷ [])))
     quiet_commands none nothing are =
         right_quiet (λ (told : LineTold). command_number slot told.entry) (accepted_command slot)
-        (length (commands_of (histories slot))) front now none nothing (are slot).of_commands
+        (length (commands_of (histories slot))) prefix now none nothing (are slot).of_commands
 
     quiet_packets : packet_number slot now.entry ≡ None → accepted_packet slot now ≡ None
-        → AreNumbered histories front
-        → filter_map (λ (told : LineTold). packet_number slot told.entry) (front ++ now ∷ [])
+        → AreNumbered histories prefix
+        → filter_map (λ (told : LineTold). packet_number slot told.entry) (prefix ++ now ∷ [])
         ≡ counted (length (packets_of (histories slot)))
-        (length (filter_map (accepted_packet slot) (front ++ now ∷ [])))
+        (length (filter_map (accepted_packet slot) (prefix ++ now ∷ [])))
     quiet_packets none nothing are =
         right_quiet (λ (told : LineTold). packet_number slot told.entry) (accepted_packet slot)
-        (length (packets_of (histories slot))) front now none nothing (are slot).of_packets
+        (length (packets_of (histories slot))) prefix now none nothing (are slot).of_packets
 
   pub numbers_more : (n : ℕ) → Answers n now.meaning now.entry
       → ((slot : ℕ) → is_about slot now ≡ true → missed slot ≡ None)
-      → AreNumbered histories front → AreNumbered histories (front ++ now ∷ [])
+      → AreNumbered histories prefix → AreNumbered histories (prefix ++ now ∷ [])
   numbers_more n answers none are = λ slot. elim (kind_of n slot now answers) [
     | other tells ↦ record {
       of_commands = quiet_commands slot tells.command_number_is tells.accepted_is are;
@@ -136,7 +136,7 @@ module _ (histories : Histories) (front : List LineTold) (now : LineTold) where
         (sym (ap (number_missed (next_command slot) (next_packet slot)) is) ∙ none slot tells.about_is) in
         record {
           of_commands = right_more (λ (told : LineTold). command_number slot told.entry) (accepted_command slot)
-              (length (commands_of (histories slot))) front now a.number c tells.command_number_is tells.accepted_is next
+              (length (commands_of (histories slot))) prefix now a.number c tells.command_number_is tells.accepted_is next
               (are slot).of_commands;
           of_packets = quiet_packets slot tells.packet_number_is tells.placed_is are;
         }
@@ -147,7 +147,7 @@ module _ (histories : Histories) (front : List LineTold) (now : LineTold) where
         record {
           of_commands = quiet_commands slot tells.command_number_is tells.accepted_is are;
           of_packets = right_more (λ (told : LineTold). packet_number slot told.entry) (accepted_packet slot)
-              (length (packets_of (histories slot))) front now j.number (record { commands = j.commands; packet = p })
+              (length (packets_of (histories slot))) prefix now j.number (record { commands = j.commands; packet = p })
               tells.packet_number_is tells.placed_is next (are slot).of_packets;
         }
     | refused r is moves tells ↦ record {
@@ -158,7 +158,7 @@ module _ (histories : Histories) (front : List LineTold) (now : LineTold) where
 
   pub numbers_break : (n slot due : ℕ) → Answers n now.meaning now.entry → is_about slot now ≡ true
       → missed slot ≡ Some due
-      → AreNumbered histories front → AreNumbered histories (front ++ now ∷ []) → ⊥
+      → AreNumbered histories prefix → AreNumbered histories (prefix ++ now ∷ []) → ⊥
   numbers_break n slot due answers about is_missed are whole = elim (kind_of n slot now answers) [
     | other tells ↦ (let no : true ≡ false = sym about ∙ tells.about_is in cc)
     | moved noted is moves tells ↦
@@ -167,13 +167,13 @@ module _ (histories : Histories) (front : List LineTold) (now : LineTold) where
     | answered a c is moves tells ↦
         never_missed a.number (next_command slot) due
         (right_is (λ (told : LineTold). command_number slot told.entry) (accepted_command slot)
-        (length (commands_of (histories slot))) front now a.number c tells.command_number_is tells.accepted_is
+        (length (commands_of (histories slot))) prefix now a.number c tells.command_number_is tells.accepted_is
         (are slot).of_commands (whole slot).of_commands)
         (sym (ap (number_missed (next_command slot) (next_packet slot)) is) ∙ is_missed)
     | judged j p is moves tells ↦
         never_missed j.number (next_packet slot) due
         (right_is (λ (told : LineTold). packet_number slot told.entry) (accepted_packet slot)
-        (length (packets_of (histories slot))) front now j.number (record { commands = j.commands; packet = p })
+        (length (packets_of (histories slot))) prefix now j.number (record { commands = j.commands; packet = p })
         tells.packet_number_is tells.placed_is (are slot).of_packets (whole slot).of_packets)
         (sym (ap (number_missed (next_command slot) (next_packet slot)) is) ∙ is_missed)
     | refused r is moves tells ↦
@@ -182,36 +182,36 @@ module _ (histories : Histories) (front : List LineTold) (now : LineTold) where
   ]
 
 -- what is told of a number that is missed
-pub missed_due : (histories : Histories) (front : List LineTold) (n at due : ℕ) (meaning : Meaning) (entry : LineEntry)
+pub missed_due : (histories : Histories) (prefix : List LineTold) (n at due : ℕ) (meaning : Meaning) (entry : LineEntry)
     → Answers n meaning entry → slot_in meaning ≡ Some at
-    → number_missed (length (commands_of (histories at)) + command_count at front)
-    (length (packets_of (histories at)) + length (packets_accepted at front)) entry ≡ Some due
-    → decimal due ≡ number_due histories front entry
-missed_due histories front n at due meaning (line.N noted) answers is gone = absurd (nothing gone)
+    → number_missed (length (commands_of (histories at)) + command_count at prefix)
+    (length (packets_of (histories at)) + length (packets_accepted at prefix)) entry ≡ Some due
+    → decimal due ≡ number_due histories prefix entry
+missed_due histories prefix n at due meaning (line.N noted) answers is gone = absurd (nothing gone)
   where
     nothing : None ≡ Some due → ⊥
     nothing none = cc
-missed_due histories front n at due meaning (line.F r) answers is gone = absurd (nothing gone)
+missed_due histories prefix n at due meaning (line.F r) answers is gone = absurd (nothing gone)
   where
     nothing : None ≡ Some due → ⊥
     nothing none = cc
-missed_due histories front n at due (command own c) (line.C a) answers is gone =
+missed_due histories prefix n at due (command own c) (line.C a) answers is gone =
     let same : own ≡ at = cc in
-    let next = length (commands_of (histories at)) + command_count at front in
+    let next = length (commands_of (histories at)) + command_count at prefix in
     ap (λ k. decimal k) (sym (due_missed next due (a.number == next) gone))
-    ∙ ap (λ slot. decimal (count_in_sequence histories slot front)) (sym (answers.1 ∙ same))
-missed_due histories front n at due (packet own p) (line.C a) answers is gone = absurd answers
-missed_due histories front n at due (move own slice text) (line.C a) answers is gone = absurd answers
-missed_due histories front n at due (note text) (line.C a) answers is gone = absurd answers
-missed_due histories front n at due (packet own p) (line.P j) answers is gone =
+    ∙ ap (λ slot. decimal (count_in_sequence histories slot prefix)) (sym (answers.1 ∙ same))
+missed_due histories prefix n at due (packet own p) (line.C a) answers is gone = absurd answers
+missed_due histories prefix n at due (move own slice text) (line.C a) answers is gone = absurd answers
+missed_due histories prefix n at due (note text) (line.C a) answers is gone = absurd answers
+missed_due histories prefix n at due (packet own p) (line.P j) answers is gone =
     let same : own ≡ at = cc in
-    let next = length (packets_of (histories at)) + length (packets_accepted at front) in
+    let next = length (packets_of (histories at)) + length (packets_accepted at prefix) in
     ap (λ k. decimal k) (sym (due_missed next due (j.number == next) gone))
-    ∙ ap (λ slot. decimal (length (packets_of (histories slot)) + length (packets_accepted slot front)))
+    ∙ ap (λ slot. decimal (length (packets_of (histories slot)) + length (packets_accepted slot prefix)))
     (sym (answers.1 ∙ same))
-missed_due histories front n at due (command own c) (line.P j) answers is gone = absurd answers
-missed_due histories front n at due (move own slice text) (line.P j) answers is gone = absurd answers
-missed_due histories front n at due (note text) (line.P j) answers is gone = absurd answers
+missed_due histories prefix n at due (command own c) (line.P j) answers is gone = absurd answers
+missed_due histories prefix n at due (move own slice text) (line.P j) answers is gone = absurd answers
+missed_due histories prefix n at due (note text) (line.P j) answers is gone = absurd answers
 
 -- the slots that a line is about
 pub about_own : (meaning : Meaning) (at : ℕ) → slot_in meaning ≡ Some at → is_about_by at meaning ≡ true

@@ -24,65 +24,65 @@ use Rattle.audit_core.proofs.ChargeLemmas.{all_behind, effects_by, effects_clash
 
 -- ---- two places of a list
 
--- what stands at the end of a front stands within a longer one
-within : {X : Type 0} (front : List X) (x : X) (later longer rest : List X) → front ++ x ∷ later ≡ longer ++ rest
-    → length front < length longer → (middle : List X) × (longer ≡ front ++ x ∷ middle)
-within front x later [] rest same less = absurd (omega arith)
+-- what stands at the end of a prefix stands within a longer one
+within : {X : Type 0} (prefix : List X) (x : X) (later longer rest : List X) → prefix ++ x ∷ later ≡ longer ++ rest
+    → length prefix < length longer → (middle : List X) × (longer ≡ prefix ++ x ∷ middle)
+within prefix x later [] rest same less = absurd (omega arith)
 within [] x later (y ∷ longer) rest same less =
     let head : y ≡ x = cc in
     (longer, ap (λ z. z ∷ longer) head)
-within (f ∷ front) x later (y ∷ longer) rest same less =
+within (f ∷ prefix) x later (y ∷ longer) rest same less =
     let head : y ≡ f = cc in
-    let tails : front ++ x ∷ later ≡ longer ++ rest = cc in
-    let found = within front x later longer rest tails (omega arith) in
+    let tails : prefix ++ x ∷ later ≡ longer ++ rest = cc in
+    let found = within prefix x later longer rest tails (omega arith) in
     (found.0, ap (λ z. z ∷ longer) head ∙ ap (λ (zs : List _). f ∷ zs) found.1)
 
--- something is so behind a front, and nothing within the front is
+-- something is so behind a prefix, and nothing within the prefix is
 record IsFirst {X : Type 0} (P : List X → X → Type 0) (xs : List X) (x : X) : Type 0 where
-  front : List X
+  prefix : List X
   later : List X
-  parts : xs ≡ front ++ x ∷ later
-  here : P front x
-  before : (some : List X) (y : X) (more : List X) → front ≡ some ++ y ∷ more → P some y → ⊥
+  parts : xs ≡ prefix ++ x ∷ later
+  here : P prefix x
+  before : (some : List X) (y : X) (more : List X) → prefix ≡ some ++ y ∷ more → P some y → ⊥
 
 module _ {X : Type 0} (P : List X → X → Type 0) (xs : List X) (x y : X) (one : IsFirst P xs x) (other : IsFirst P xs y)
   where
-    not_less : length one.front < length other.front → ⊥
+    not_less : length one.prefix < length other.prefix → ⊥
     not_less less =
-        let found = within one.front x one.later other.front (y ∷ other.later) (sym one.parts ∙ other.parts) less in
-        other.before one.front x found.0 found.1 one.here
+        let found = within one.prefix x one.later other.prefix (y ∷ other.later) (sym one.parts ∙ other.parts) less in
+        other.before one.prefix x found.0 found.1 one.here
 
-    not_more : length other.front < length one.front → ⊥
+    not_more : length other.prefix < length one.prefix → ⊥
     not_more less =
-        let found = within other.front y other.later one.front (x ∷ one.later) (sym other.parts ∙ one.parts) less in
-        one.before other.front y found.0 found.1 other.here
+        let found = within other.prefix y other.later one.prefix (x ∷ one.later) (sym other.parts ∙ one.parts) less in
+        one.before other.prefix y found.0 found.1 other.here
 
-    as_long : length one.front ≡ length other.front
-    as_long = elim (cases_lt (length one.front) (length other.front)) [
+    as_long : length one.prefix ≡ length other.prefix
+    as_long = elim (cases_lt (length one.prefix) (length other.prefix)) [
       | inl less ↦ absurd (not_less less)
-      | inr most ↦ elim (cases_lt (length other.front) (length one.front)) [
+      | inr most ↦ elim (cases_lt (length other.prefix) (length one.prefix)) [
         | inl less ↦ absurd (not_more less)
         | inr least ↦ omega (arith, most, least)
       ]
     ]
 
-    one_place : (one.front ≡ other.front) × (x ≡ y)
+    one_place : (one.prefix ≡ other.prefix) × (x ≡ y)
     one_place =
-        let n = length one.front in
-        let fronts : one.front ≡ other.front =
-        sym (take_at one.front (x ∷ one.later) n refl) ∙ ap (take n) (sym one.parts ∙ other.parts)
-        ∙ take_at other.front (y ∷ other.later) n (sym as_long) in
+        let n = length one.prefix in
+        let prefixes : one.prefix ≡ other.prefix =
+        sym (take_at one.prefix (x ∷ one.later) n refl) ∙ ap (take n) (sym one.parts ∙ other.parts)
+        ∙ take_at other.prefix (y ∷ other.later) n (sym as_long) in
         let rests : x ∷ one.later ≡ y ∷ other.later =
-        sym (drop_at one.front (x ∷ one.later) n refl) ∙ ap (drop n) (sym one.parts ∙ other.parts)
-        ∙ drop_at other.front (y ∷ other.later) n (sym as_long) in
+        sym (drop_at one.prefix (x ∷ one.later) n refl) ∙ ap (drop n) (sym one.parts ∙ other.parts)
+        ∙ drop_at other.prefix (y ∷ other.later) n (sym as_long) in
         let items : x ≡ y = cc in
-        (fronts, items)
+        (prefixes, items)
 
 -- the first of a list of which something doesn't hold
-first_not : {X : Type 0} (P Q : X → Type 0) (xs front : List X) (x : X) (later : List X) → xs ≡ front ++ x ∷ later
-    → All P front → Q x → ((y : X) → P y → Q y → ⊥) → IsFirst (λ some y. Q y) xs x
-first_not P Q xs front x later parts all here clash = record {
-  front = front;
+first_not : {X : Type 0} (P Q : X → Type 0) (xs prefix : List X) (x : X) (later : List X) → xs ≡ prefix ++ x ∷ later
+    → All P prefix → Q x → ((y : X) → P y → Q y → ⊥) → IsFirst (λ some y. Q y) xs x
+first_not P Q xs prefix x later parts all here clash = record {
+  prefix = prefix;
   later = later;
   parts = parts;
   here = here;
@@ -146,18 +146,18 @@ module _ {X : Type 0} (whose : X → ℕ) (as_entry : X → Entry) (slots : ℕ)
       let first = one.first in
       let second = also.first in
       let same = one_place (λ some y. slots ≤ whose y) told one.item also.item
-      (first_not (λ y. whose y < slots) (λ y. slots ≤ whose y) told first.front one.item first.later first.parts
+      (first_not (λ y. whose y < slots) (λ y. slots ≤ whose y) told first.prefix one.item first.later first.parts
       first.known first.beyond (λ y low high. not_both slots (whose y) low high))
-      (first_not (λ y. whose y < slots) (λ y. slots ≤ whose y) told second.front also.item second.later second.parts
+      (first_not (λ y. whose y < slots) (λ y. slots ≤ whose y) told second.prefix also.item second.later second.parts
       second.known second.beyond (λ y low high. not_both slots (whose y) low high)) in
       one.is ∙ ap (λ y. tells (Some (as_entry y)) None) same.1 ∙ sym also.is
   one_item told made found other (inl one) (inr also) =
       absurd (not_both slots (whose one.item)
-      (all_behind (λ y. whose y < slots) one.first.front one.item one.first.later
+      (all_behind (λ y. whose y < slots) one.first.prefix one.item one.first.later
       (subst (AreOfSlots whose slots) one.first.parts also.0)) one.first.beyond)
   one_item told made found other (inr one) (inl also) =
       absurd (not_both slots (whose also.item)
-      (all_behind (λ y. whose y < slots) also.first.front also.item also.first.later
+      (all_behind (λ y. whose y < slots) also.first.prefix also.item also.first.later
       (subst (AreOfSlots whose slots) also.first.parts one.0)) also.first.beyond)
   one_item told made found other (inr one) (inr also) =
       let same = one_difference (in_slot_order whose slots told) made one.1.stands one.1.due also.1.stands also.1.due
@@ -166,7 +166,7 @@ module _ {X : Type 0} (whose : X → ℕ) (as_entry : X → Entry) (slots : ℕ)
       ∙ ap (λ due. tells (option_map as_entry also.1.stands) (option_map as_entry due)) same.1 ∙ sym also.1.is
 
   module _ (told : ℕ → List X) (made : EpochReport → List X) (epochs : List EpochReport)
-      (by : (front later : List EpochReport) (now : EpochReport) → epochs ≡ front ++ now ∷ later
+      (by : (prefix later : List EpochReport) (now : EpochReport) → epochs ≡ prefix ++ now ∷ later
       → AreBySlot whose slots (made now)) where
     agrees_within : (epoch : ℕ) (some : List EpochReport) (now : EpochReport) (more : List EpochReport)
         → AgreeUpTo whose told made epoch (some ++ now ∷ more)
@@ -181,11 +181,11 @@ module _ {X : Type 0} (whose : X → ℕ) (as_entry : X → Entry) (slots : ℕ)
     first_epoch : (found : Break) (one : EpochDiffers whose as_entry slots told made epochs found)
         → IsFirst (λ some now. AgreeBySlot whose (told (length some)) (made now) → ⊥) epochs one.now
     first_epoch found one = record {
-      front = one.front;
+      prefix = one.prefix;
       later = one.later;
       parts = one.parts;
-      here = λ agree. item_broken whose as_entry slots (told (length one.front)) (made one.now) found
-          (by one.front one.later one.now one.parts) one.first agree;
+      here = λ agree. item_broken whose as_entry slots (told (length one.prefix)) (made one.now) found
+          (by one.prefix one.later one.now one.parts) one.first agree;
       before = λ some now more is bad.
           let at : 0 + length some ≡ length some = omega arith in
           bad (subst (λ k. AgreeBySlot whose (told k) (made now)) at
@@ -203,16 +203,16 @@ module _ {X : Type 0} (whose : X → ℕ) (as_entry : X → Entry) (slots : ℕ)
         absurd (omega (
           arith,
           one.none,
-          ap length also.parts ∙ length-append also.front (also.now ∷ also.later),
+          ap length also.parts ∙ length-append also.prefix (also.now ∷ also.later),
         ))
     one_epoch found other (inr one) (inl also) =
-        absurd (omega (arith, also.none, ap length one.parts ∙ length-append one.front (one.now ∷ one.later)))
+        absurd (omega (arith, also.none, ap length one.parts ∙ length-append one.prefix (one.now ∷ one.later)))
     one_epoch found other (inr one) (inr also) =
         let same = one_place (λ some now. AgreeBySlot whose (told (length some)) (made now) → ⊥) epochs one.now also.now
         (first_epoch found one) (first_epoch other also) in
-        one_item (told (length also.front)) (made also.now) found other
-        (subst (λ (now : EpochReport). ItemBreak whose as_entry slots (told (length also.front)) (made now) found) same.1
-        (subst (λ (front : List EpochReport). ItemBreak whose as_entry slots (told (length front)) (made one.now) found)
+        one_item (told (length also.prefix)) (made also.now) found other
+        (subst (λ (now : EpochReport). ItemBreak whose as_entry slots (told (length also.prefix)) (made now) found) same.1
+        (subst (λ (prefix : List EpochReport). ItemBreak whose as_entry slots (told (length prefix)) (made one.now) found)
         same.0 one.first)) also.first
 
 -- ---- open counters
@@ -220,7 +220,7 @@ module _ {X : Type 0} (whose : X → ℕ) (as_entry : X → Entry) (slots : ℕ)
 first_too_many : (made told : List ChargeEntry) (open_ : ChargeEntry) → Surplus made told (Some open_)
     → IsFirst (IsTooMany made) told open_
 first_too_many made told open_ one = record {
-  front = one.front;
+  prefix = one.prefix;
   later = one.later;
   parts = one.parts;
   here = one.too_many;
@@ -230,8 +230,8 @@ first_too_many made told open_ one = record {
 one_surplus : (made told : List ChargeEntry) (one other : Option ChargeEntry) → Surplus made told one
     → Surplus made told other → one ≡ other
 one_surplus made told None None one other = refl
-one_surplus made told None (Some open_) one other = absurd (one other.front other.later open_ other.parts other.too_many)
-one_surplus made told (Some open_) None one other = absurd (other one.front one.later open_ one.parts one.too_many)
+one_surplus made told None (Some open_) one other = absurd (one other.prefix other.later open_ other.parts other.too_many)
+one_surplus made told (Some open_) None one other = absurd (other one.prefix one.later open_ one.parts one.too_many)
 one_surplus made told (Some open_) (Some again) one other =
     ap (λ o. Some o) (one_place (IsTooMany made) told open_ again (first_too_many made told open_ one)
     (first_too_many made told again other)).1
@@ -240,17 +240,17 @@ one_open : (told made : List ChargeEntry) (found other : Break) → OpenBreakOf 
     → OpenBreakOf told made other → found ≡ other
 one_open told made found other (inl one) (inl also) =
     let same = one_place (λ some y. Contains told y → ⊥) made one.open_ also.open_
-    (first_not (Contains told) (λ y. Contains told y → ⊥) made one.front one.open_ one.later one.parts one.holds
+    (first_not (Contains told) (λ y. Contains told y → ⊥) made one.prefix one.open_ one.later one.parts one.holds
     one.missing (λ y there none. none there))
-    (first_not (Contains told) (λ y. Contains told y → ⊥) made also.front also.open_ also.later also.parts also.holds
+    (first_not (Contains told) (λ y. Contains told y → ⊥) made also.prefix also.open_ also.later also.parts also.holds
     also.missing (λ y there none. none there)) in
     one.is
     ∙ ap (λ y. tells (option_map entry.Charge (find (same_life y) told)) (Some (entry.Charge y))) same.1 ∙ sym also.is
 one_open told made found other (inl one) (inr also) =
-    absurd (one.missing (all_behind (Contains told) one.front one.open_ one.later
+    absurd (one.missing (all_behind (Contains told) one.prefix one.open_ one.later
     (subst (All (Contains told)) one.parts also.each)))
 one_open told made found other (inr one) (inl also) =
-    absurd (also.missing (all_behind (Contains told) also.front also.open_ also.later
+    absurd (also.missing (all_behind (Contains told) also.prefix also.open_ also.later
     (subst (All (Contains told)) also.parts one.each)))
 one_open told made found other (inr one) (inr also) =
     one.is

@@ -51,9 +51,9 @@ counted_push first (suc slots) has =
     ∙ sym (append_assoc (has first) (flat_map has (counted (first + 1) slots)) (has (first + 1 + slots)))
     ∙ ap (λ s. flat_map has (counted first (suc slots)) ++ has s) same
 
-pub opens_more : (slots : ℕ) (has : ℕ → List ChargeEntry) (front : List ChargeEntry) → front ≡ by_slot slots has
-    → front ++ has slots ≡ by_slot (slots + 1) has
-opens_more slots has front is =
+pub opens_more : (slots : ℕ) (has : ℕ → List ChargeEntry) (prefix : List ChargeEntry) → prefix ≡ by_slot slots has
+    → prefix ++ has slots ≡ by_slot (slots + 1) has
+opens_more slots has prefix is =
     let one : suc slots ≡ slots + 1 = omega arith in
     let none : 0 + slots ≡ slots = omega arith in
     ap (λ f. f ++ has slots) is ∙ ap (λ s. by_slot slots has ++ has s) (sym none) ∙ sym (counted_push 0 slots has) ∙ ap (λ n. by_slot n has) one

@@ -68,12 +68,6 @@ pub no_some : {X : Type 0} (told : Option X) → ((x : X) → told ≡ Some x �
 no_some None none = refl
 no_some (Some x) none = absurd (none x refl)
 
--- the order of all of them
-pub differ_order : (entries asked : List Entry) (found : Option Break) → IfSome found (DiffersAt entries asked)
-    → IfSome found (OrderBreak entries asked)
-differ_order entries asked None is = tt
-differ_order entries asked (Some found) is = differs_order entries asked found is
-
 -- one effect more, one line more
 more_due : {X Y : Type 0} (as_entry : Y → Entry) (f : X → Y) (asked : List Entry) (items : List X) (i : ℕ) (x : X)
     → i < length items → x ≡ get_or items i x

@@ -80,8 +80,8 @@ be24_behind before text k n is =
 -- a part of octets
 part_at : (octets before part later : List ℕ) (from to : ℕ) → octets ≡ before ++ (part ++ later)
     → length before ≡ from → from + length part ≡ to → slice_range octets from to ≡ part
-part_at octets before part later from to is front len =
-    ap (λ l. slice_range l from to) is ∙ ap (take (to - from)) (drop_at before (part ++ later) from front)
+part_at octets before part later from to is prefix len =
+    ap (λ l. slice_range l from to) is ∙ ap (take (to - from)) (drop_at before (part ++ later) from prefix)
     ∙ take_at part later (to - from) (omega (arith, len))
 
 -- What stands at the place of a text.
@@ -268,10 +268,10 @@ pub short_parts : (text : List ℕ) (pack : Pack) → text ≡ text_of pack → 
     → length pack.octets ≤ length text → IsShort pack
 short_parts text pack is short octets =
     let all = length-append (pack.head ++ field_of pack.octets) pack.tail in
-    let front = length-append pack.head (field_of pack.octets) in
+    let prefix = length-append pack.head (field_of pack.octets) in
     let len = ap length is in
     record {
-      head = omega (arith, len, all, front, short);
+      head = omega (arith, len, all, prefix, short);
       octets = omega (arith, octets, short);
-      tail = omega (arith, len, all, front, short);
+      tail = omega (arith, len, all, prefix, short);
     }

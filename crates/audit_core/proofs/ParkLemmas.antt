@@ -25,10 +25,10 @@ behind_this slot (first ∷ lines) now moves_ =
     (now_moved slot (first ∷ lines) now moves_)
     ∙ behind_this slot lines now moves_
 
-with_last : (test : Bool) (front others : List LineTold) (now : LineTold)
-    → cond test (front ++ now ∷ []) (others ++ now ∷ []) ≡ cond test front others ++ now ∷ []
-with_last true front others now = refl
-with_last false front others now = refl
+with_last : (test : Bool) (prefix others : List LineTold) (now : LineTold)
+    → cond test (prefix ++ now ∷ []) (others ++ now ∷ []) ≡ cond test prefix others ++ now ∷ []
+with_last true prefix others now = refl
+with_last false prefix others now = refl
 
 behind_more : (slot : ℕ) (lines : List LineTold) (now : LineTold) → moves slot now ≡ false
     → behind_last_move slot (lines ++ now ∷ []) ≡ behind_last_move slot lines ++ now ∷ []
@@ -40,15 +40,15 @@ behind_more slot (first ∷ lines) now stays =
 
 -- those parked, with one line more that doesn't move the slot
 abbrev parked_since : ℕ → List LineTold → List Bool
-parked_since slot front = filter_map (parked_told slot) (behind_last_move slot front)
+parked_since slot prefix = filter_map (parked_told slot) (behind_last_move slot prefix)
 
-parked_more : (slot : ℕ) (front : List LineTold) (now : LineTold) (parked : Option Bool) → moves slot now ≡ false
+parked_more : (slot : ℕ) (prefix : List LineTold) (now : LineTold) (parked : Option Bool) → moves slot now ≡ false
     → parked_told slot now ≡ parked
-    → parked_since slot (front ++ now ∷ []) ≡ parked_since slot front ++ cons_option parked []
-parked_more slot front now parked stays is =
-    ap (filter_map (parked_told slot)) (behind_more slot front now stays)
-    ∙ filter_map-append (parked_told slot) (behind_last_move slot front) (now ∷ [])
-    ∙ ap (λ x. parked_since slot front ++ cons_option x []) is
+    → parked_since slot (prefix ++ now ∷ []) ≡ parked_since slot prefix ++ cons_option parked []
+parked_more slot prefix now parked stays is =
+    ap (filter_map (parked_told slot)) (behind_more slot prefix now stays)
+    ∙ filter_map-append (parked_told slot) (behind_last_move slot prefix) (now ∷ [])
+    ∙ ap (λ x. parked_since slot prefix ++ cons_option x []) is
 
 abbrev all_parked : List Bool → Bool
 all_parked parked = list_all (λ (p : Bool). p) parked
@@ -59,25 +59,25 @@ with_one true false one = refl
 with_one true true false = refl
 with_one true true true = refl
 
-module _ (slot : ℕ) (front : List LineTold) (now : LineTold) where
-  may_moved : moves slot now ≡ true → may_park slot (front ++ now ∷ []) ≡ true
+module _ (slot : ℕ) (prefix : List LineTold) (now : LineTold) where
+  may_moved : moves slot now ≡ true → may_park slot (prefix ++ now ∷ []) ≡ true
   may_moved moves_ =
-      (λ i. now_moved slot front now moves_ i
-      && all_parked (filter_map (parked_told slot) (behind_this slot front now moves_ i)))
+      (λ i. now_moved slot prefix now moves_ i
+      && all_parked (filter_map (parked_told slot) (behind_this slot prefix now moves_ i)))
 
   may_quiet : moves slot now ≡ false → parked_told slot now ≡ None
-      → may_park slot (front ++ now ∷ []) ≡ may_park slot front
+      → may_park slot (prefix ++ now ∷ []) ≡ may_park slot prefix
   may_quiet stays none =
-      let same : parked_since slot (front ++ now ∷ []) ≡ parked_since slot front =
-      parked_more slot front now None stays none ∙ append-nil (parked_since slot front) in
-      (λ i. still_unmoved slot front now stays i && all_parked (same i))
+      let same : parked_since slot (prefix ++ now ∷ []) ≡ parked_since slot prefix =
+      parked_more slot prefix now None stays none ∙ append-nil (parked_since slot prefix) in
+      (λ i. still_unmoved slot prefix now stays i && all_parked (same i))
 
   may_parked : (parked : Bool) → moves slot now ≡ false → parked_told slot now ≡ Some parked
-      → may_park slot (front ++ now ∷ []) ≡ (may_park slot front && parked)
+      → may_park slot (prefix ++ now ∷ []) ≡ (may_park slot prefix && parked)
   may_parked parked stays is =
-      (λ i. still_unmoved slot front now stays i && all_parked (parked_more slot front now (Some parked) stays is i))
-      ∙ ap (λ t. is_moved slot front && t) (list_all-append (λ (p : Bool). p) (parked_since slot front) (parked ∷ []))
-      ∙ with_one (is_moved slot front) (all_parked (parked_since slot front)) parked
+      (λ i. still_unmoved slot prefix now stays i && all_parked (parked_more slot prefix now (Some parked) stays is i))
+      ∙ ap (λ t. is_moved slot prefix && t) (list_all-append (λ (p : Bool). p) (parked_since slot prefix) (parked ∷ []))
+      ∙ with_one (is_moved slot prefix) (all_parked (parked_since slot prefix)) parked
 
 -- behind a line of the slot
 pub may_next : (n slot : ℕ) (own : Own) (before : List LineTold) (meaning : Meaning) (entry : LineEntry)

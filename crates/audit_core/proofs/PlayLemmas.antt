@@ -7,7 +7,7 @@ use Rattle.std.specs.Global.{Vec}
 use Rattle.std.specs.List.{filter_map}
 use Rattle.std.specs.declared.alloc.AllocError.{AllocError}
 use Rattle.std.proofs.lemmas.Bool.{cases_lt}
-use Rattle.std.proofs.lemmas.List.{drop_all, get_or-map, length-map}
+use Rattle.std.proofs.lemmas.List.{drop_all, get_or-map, get_or_default, length-map}
 use Rattle.bearer_state.specs.Session.{SessionState}
 use Rattle.control_steps.specs.declared.command.CommandKind.{CommandKind}
 use Rattle.gate_model.specs.Events.{as_command, commands_of, packets_of}
@@ -69,7 +69,7 @@ below_next P i below here slot low = elim (cases_lt slot i) [
 ]
 
 -- nothing is made of no events
-no_rows : (slot : ℕ) (before : List Event) → made_of.rows slot before [] ≡ []
+pub no_rows : (slot : ℕ) (before : List Event) → made_of.rows slot before [] ≡ []
 no_rows slot before =
     ap (map (R slot)) (ap (λ es. drop (length (records_after slot before)) (records_after slot es)) (append-nil before)
     ∙ drop_all (length (records_after slot before)) (records_after slot before) (omega arith))
@@ -78,7 +78,7 @@ no_rows slot before =
 abbrev NoLines : ℕ → List LineTold → Type 0
 NoLines slot all = share slot all ≡ []
 
-no_events : (slot : ℕ) (before : List Event) (all : List LineTold) → NoLines slot all → events_in before all slot ≡ []
+pub no_events : (slot : ℕ) (before : List Event) (all : List LineTold) → NoLines slot all → events_in before all slot ≡ []
 no_events slot before all none =
     sym (events_shared slot before all)
     ∙ ap (λ lines. events_of before (filter_map command_taken lines) (filter_map placed_in lines)) none
@@ -430,6 +430,8 @@ pub record Half (lines : List LineTold) (old now : List SubscriberState) (done :
   pub rest : (slices count latest : ℕ) → AreAtRest slices count latest old → AreLate latest lines
       → (s : ℕ) (none : SubscriberState) → s < done
       → IsAtRest slices (count + length lines) (latest_of latest lines) s (get_or now s none)
+  pub bound : (s : ℕ) (none : SubscriberState) → s < done
+      → (get_or now s none).destination ≡ (get_or old s none).destination
 
 pub half_next : (lines : List LineTold) (old now new : List SubscriberState) (i : ℕ) (did : SubscriberState)
     (played after : Played) → Half lines old now i played → i < length old → new ≡ set now i did
@@ -438,8 +440,9 @@ pub half_next : (lines : List LineTold) (old now new : List SubscriberState) (i 
     → ((histories : Histories) → AreStanding old histories → Represents did i (behind histories lines i))
     → ((slices count latest : ℕ) → AreAtRest slices count latest old → AreLate latest lines
     → IsAtRest slices (count + length lines) (latest_of latest lines) i did)
+    → ((none : SubscriberState) → did.destination ≡ (get_or old i none).destination)
     → Half lines old new (i + 1) after
-half_next lines old now new i did played after half low is plays stands rest =
+half_next lines old now new i did played after half low is plays stands rest bound =
     let own : (none : SubscriberState) → get_or new i none ≡ did = λ none.
     ap (λ some. get_or some i none) is ∙ get_or-set_same now i did none (omega (arith, low, half.many)) in
     let another : (s : ℕ) (none : SubscriberState) → s ≢ i → get_or new s none ≡ get_or now s none = λ s none differ.
@@ -465,6 +468,15 @@ half_next lines old now new i did played after half low is plays stands rest =
             (subst (λ p. IsAtRest slices (count + length lines) (latest_of latest lines) i p) (sym (own none))
             (rest slices count latest are late))
       ];
+      bound = λ s none below. elim (cases_lt s i) [
+        | inl less ↦
+            ap (λ (p : SubscriberState). p.destination) (another s none (λ same. omega (arith, less, same)))
+            ∙ half.bound s none less
+        | inr most ↦
+            let same : i ≡ s = omega (arith, below, most) in
+            subst (λ k. (get_or new k none).destination ≡ (get_or old k none).destination) same
+            (ap (λ (p : SubscriberState). p.destination) (own none) ∙ bound none)
+      ];
     }
 
 pub half_none : (lines : List LineTold) (old : List SubscriberState) (played : Played) → played.counts ≡ None
@@ -482,6 +494,7 @@ half_none lines old played counts gateway effects rows = record {
   };
   stands = λ histories stand s none low. absurd (omega (arith, low));
   rest = λ slices count latest are late s none low. absurd (omega (arith, low));
+  bound = λ s none low. absurd (omega (arith, low));
 }
 
 -- one slot more, by what its subscriber did
@@ -496,8 +509,9 @@ module _ (lines : List LineTold) (old now new : List SubscriberState) (i : ℕ) 
       → Represents did i (before ++ events_in before all i))
       → ((slices count latest : ℕ) → IsAtRest slices count latest i subscriber → AreLate latest (lines_of own)
       → IsAtRest slices (count + length own) (latest_of latest (lines_of own)) i did)
+      → did.destination ≡ subscriber.destination
       → Half lines old new (i + 1) after
-  half_step half low is set_ its plays stands rest =
+  half_step half low is set_ its plays stands rest bound =
       let from : subscriber ≡ get_or old i subscriber = is ∙ half.later i subscriber (omega arith) in
       half_next lines old now new i did played after half low set_
       (λ first histories stand are below. plays first histories lines
@@ -514,6 +528,8 @@ module _ (lines : List LineTold) (old now new : List SubscriberState) (i : ℕ) 
       (latest_of latest lines) did few le
       (rest slices count latest (subst (IsAtRest slices count latest i) (sym from) (are i subscriber low))
       (subst (AreLate latest) (sym its) shared.0)))
+      (λ none. bound ∙ ap (λ (p : SubscriberState). p.destination)
+      (is ∙ get_or_default now i subscriber none (omega (arith, low, half.many)) ∙ half.later i none (omega arith)))
 
 -- what its lines ask for
 pub own_lines : (lines : List LineTold) (slices count latest i : ℕ) (subscriber : SubscriberState) (own : List ToldLine)

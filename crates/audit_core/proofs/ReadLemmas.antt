@@ -22,7 +22,7 @@ use Rattle.audit_core.specs.declared.report.Run.{Run}
 use Rattle.audit_core.specs.declared.report.Stood.{Stood}
 use Rattle.audit_core.specs.declared.sharing.Keyed.{Keyed}
 use Rattle.audit_core.proofs.NumberSteps.{counted-push}
-use Rattle.audit_core.proofs.RunLemmas.{are_read, entries-placed, its_epochs, length-placed, places-placed, runs_front}
+use Rattle.audit_core.proofs.RunLemmas.{are_read, entries-placed, its_epochs, length-placed, places-placed, runs_prefix}
 use Rattle.audit_core.proofs.SaidLemmas.{one_list}
 
 -- Entries that are kept so, with runs of them.
@@ -63,15 +63,15 @@ reads_run octets runs k d old new within entries_are places_are reads = λ entri
     }
 
 -- of a run so many entries were read, behind others
-pub record AreReadIn (octets : List ℕ) (entries : List Entry) (run : Run) (front : List Entry) (at i : ℕ)
+pub record AreReadIn (octets : List ℕ) (entries : List Entry) (run : Run) (prefix : List Entry) (at i : ℕ)
     (all : List Stood) : Type 0 where
   pub here : KeepsFrom octets at (map entry_text (drop (run.first + i) entries))
-  pub entries_are : entries_stood all ≡ front ++ take i (drop run.first entries)
+  pub entries_are : entries_stood all ≡ prefix ++ take i (drop run.first entries)
 
 abbrev pub ReadsIn : List ℕ → Run → List Entry → ℕ → ℕ → List Stood → Type 0
-ReadsIn octets run front at i all =
+ReadsIn octets run prefix at i all =
     (entries : List Entry) → All IsEntry entries → IsRunOf octets entries run
-    → AreReadIn octets entries run front at i all
+    → AreReadIn octets entries run prefix at i all
 
 pub reads_begin : (octets : List ℕ) (run : Run) (all : List Stood)
     → ReadsIn octets run (entries_stood all) run.from 0 all
@@ -119,20 +119,20 @@ one_taken [] (suc m) x is = absurd (cc)
 one_taken (y ∷ xs) zero x is = let same : y ≡ x = cc in ap (λ z. z ∷ []) same
 one_taken (y ∷ xs) (suc m) x is = ap (λ l. y ∷ l) (one_taken xs m x is)
 
-pub next_in_run : (octets : List ℕ) (entries : List Entry) (run : Run) (front : List Entry) (at i : ℕ)
+pub next_in_run : (octets : List ℕ) (entries : List Entry) (run : Run) (prefix : List Entry) (at i : ℕ)
     (all : List Stood) → All IsEntry entries → IsRunOf octets entries run → i < run.count
-    → AreReadIn octets entries run front at i all → NextEntry octets at entries (run.first + i)
-next_in_run octets entries run front at i all ranges is low so =
+    → AreReadIn octets entries run prefix at i all → NextEntry octets at entries (run.first + i)
+next_in_run octets entries run prefix at i all ranges is low so =
     next_entry_at octets at entries (run.first + i) (omega (arith, is.within, low)) ranges so.here
 
-pub reads_next : (octets : List ℕ) (run : Run) (front : List Entry) (at next i : ℕ) (all : List Stood)
+pub reads_next : (octets : List ℕ) (run : Run) (prefix : List Entry) (at next i : ℕ) (all : List Stood)
     (stood : Stood) → i < run.count
     → ((own : Entry) (later : List Text) → IsEntry own → KeepsFrom octets at (entry_text own ∷ later)
     → (stood.entry ≡ own) × KeepsFrom octets next later)
-    → ReadsIn octets run front at i all → ReadsIn octets run front next (i + 1) (all ++ stood ∷ [])
-reads_next octets run front at next i all stood low read reads = λ entries ranges is.
+    → ReadsIn octets run prefix at i all → ReadsIn octets run prefix next (i + 1) (all ++ stood ∷ [])
+reads_next octets run prefix at next i all stood low read reads = λ entries ranges is.
     let so = reads entries ranges is in
-    let found = next_in_run octets entries run front at i all ranges is low so in
+    let found = next_in_run octets entries run prefix at i all ranges is low so in
     let told = read found.one (map entry_text (drop (run.first + i + 1) entries)) found.range found.keeps in
     let tail = drop run.first entries in
     let order : run.first + i + 1 ≡ run.first + (i + 1) = omega arith in
@@ -145,18 +145,18 @@ reads_next octets run front at next i all stood low read reads = λ entries rang
       here = subst (λ n. KeepsFrom octets next (map entry_text (drop n entries))) order told.1;
       entries_are = map_push (λ (s : Stood). s.entry) all stood
           ∙ (λ j. so.entries_are j ++ told.0 j ∷ [])
-          ∙ append_assoc front (take i tail) (found.one ∷ [])
-          ∙ ap (λ l. front ++ l) (sym (one_taken tail i found.one own) ∙ ap (λ n. take n tail) count);
+          ∙ append_assoc prefix (take i tail) (found.one ∷ [])
+          ∙ ap (λ l. prefix ++ l) (sym (one_taken tail i found.one own) ∙ ap (λ n. take n tail) count);
     }
 
-pub places_next : (run : Run) (front : List ℕ) (i : ℕ) (all : List Stood) (stood : Stood)
-    → stood.place ≡ run.first + i → places_stood all ≡ front ++ counted run.first i
-    → places_stood (all ++ stood ∷ []) ≡ front ++ counted run.first (i + 1)
-places_next run front i all stood place so =
+pub places_next : (run : Run) (prefix : List ℕ) (i : ℕ) (all : List Stood) (stood : Stood)
+    → stood.place ≡ run.first + i → places_stood all ≡ prefix ++ counted run.first i
+    → places_stood (all ++ stood ∷ []) ≡ prefix ++ counted run.first (i + 1)
+places_next run prefix i all stood place so =
     let count : suc i ≡ i + 1 = omega arith in
     map_push (λ (s : Stood). s.place) all stood ∙ (λ j. so j ++ place j ∷ [])
-    ∙ append_assoc front (counted run.first i) ((run.first + i) ∷ [])
-    ∙ ap (λ l. front ++ l) (sym (counted-push run.first i) ∙ ap (counted run.first) count)
+    ∙ append_assoc prefix (counted run.first i) ((run.first + i) ∷ [])
+    ∙ ap (λ l. prefix ++ l) (sym (counted-push run.first i) ∙ ap (counted run.first) count)
 
 -- the runs of an epoch
 all_under : {T : Type 0} (P : T → Type 0) (k : ℕ) (keyed : List (Keyed T)) → All (λ (one : Keyed T). P one.item) keyed
@@ -228,7 +228,7 @@ pub passes_run : (runs : List (Keyed Run)) (k place : ℕ) (run : Keyed Run) →
 passes_run runs k place run within is follow before other =
     let more : take (k + 1) runs ≡ take k runs ++ run ∷ [] =
     take_more runs k run within ∙ ap (λ r. take k runs ++ r ∷ []) (sym is) in
-    let first = (runs_front 0 (take k runs) run (subst (AreRunsFrom 0) more (runs_take 0 (k + 1) runs follow))).1 in
+    let first = (runs_prefix 0 (take k runs) run (subst (AreRunsFrom 0) more (runs_take 0 (k + 1) runs follow))).1 in
     let past = other (omega (arith, first, before)) in
     let count : length (epochs_of (take (k + 1) runs)) ≡ length (epochs_of (take k runs)) + run.item.count =
     ap (λ l. length (epochs_of l)) more

@@ -25,7 +25,7 @@ module _ {X : Type 0} (tell : LineTold → Option X) (made : List X) (lines : Li
   pub said_next : (i : ℕ) (now : LineTold) (left later : List X) → take (i + 1) lines ≡ take i lines ++ now ∷ []
       → left ≡ cons_option (tell now) later → SaidUpTo tell made lines i left → SaidUpTo tell made lines (i + 1) later
   said_next i now left later more parts said =
-      ap (λ front. filter_map tell front ++ later) more
+      ap (λ prefix. filter_map tell prefix ++ later) more
       ∙ ap (λ told. told ++ later) (filter_map-append tell (take i lines) (now ∷ []))
       ∙ append_assoc (filter_map tell (take i lines)) (cons_option (tell now) []) later
       ∙ ap (λ rest. filter_map tell (take i lines) ++ rest) (one_behind (tell now) later ∙ sym parts) ∙ said
@@ -36,7 +36,7 @@ module _ {X : Type 0} (tell : LineTold → Option X) (made : List X) (lines : Li
       → found ≡ tells (Some (entry.Line now.entry)) (due now.entry next)
       → FirstSaid tell due made lines found
   said_other due i now left next found parts other said is = record {
-    front = take i lines;
+    prefix = take i lines;
     now = now;
     later = drop (i + 1) lines;
     said = other.said;

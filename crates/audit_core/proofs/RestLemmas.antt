@@ -1,8 +1,8 @@
 -- Lists that are the same, item by item.
-use Rattle.std.proofs.Common.{◌≡◌, ℕ, ◌+◌, ◌<◌, ◌≤◌, ◌↔◌, Bool, true, false, IsTrue, List, [], ◌∷◌, ◌++◌, length, map, take, drop, get_or, flat_map, refl, sym, ap, ◌∙◌, append_assoc, append-nil}
+use Rattle.std.proofs.Common.{◌≡◌, ℕ, ◌+◌, ◌<◌, ◌↔◌, Bool, true, false, IsTrue, List, [], ◌∷◌, ◌++◌, length, map, take, drop, get_or, flat_map, refl, sym, ap, ◌∙◌, append_assoc, append-nil}
 use Rattle.std.proofs.lemmas.Bool.{false≢true}
 use Rattle.std.proofs.lemmas.Grind.{flat_map-append}
-use Rattle.std.proofs.lemmas.List.{map-append, take_more, drop_all, drop_more, get_or-map, length-map}
+use Rattle.std.proofs.lemmas.List.{map-append, take_more, drop_more, get_or-map, length-map}
 
 -- what is left of two lists is the same exactly where they are
 abbrev pub RestSame : {X : Type 0} → List X → List X → ℕ → Type 0
@@ -28,9 +28,6 @@ granted p = ((λ yes. p), (λ given. refl))
 pub denied : {test : Bool} {P : Type 0} → IsTrue test ↔ P → test ≡ false → P → ⊥
 denied says fails p = false≢true (sym fails ∙ says.1 p)
 
-pub rest_begins : {X : Type 0} (xs ys : List X) → RestSame xs ys 0
-rest_begins xs ys = ((λ same. same), (λ same. same))
-
 module _ {X : Type 0} (xs ys : List X) (i : ℕ) (x y : X) where
   pub rest_next : drop i xs ≡ x ∷ drop (i + 1) xs → drop i ys ≡ y ∷ drop (i + 1) ys → x ≡ y → RestSame xs ys i
       → RestSame xs ys (i + 1)
@@ -38,15 +35,6 @@ module _ {X : Type 0} (xs ys : List X) (i : ℕ) (x y : X) where
     (λ later. rest.0 (first ∙ (λ j. same j ∷ later j) ∙ sym other)),
     (λ whole. ap (drop (i + 1)) whole),
   )
-
-  pub rest_differs : drop i xs ≡ x ∷ drop (i + 1) xs → drop i ys ≡ y ∷ drop (i + 1) ys → (x ≡ y → ⊥) → xs ≡ ys → ⊥
-  rest_differs first other differ whole =
-      let both : x ∷ drop (i + 1) xs ≡ y ∷ drop (i + 1) ys = sym first ∙ ap (drop i) whole ∙ other in
-      let same : x ≡ y = cc in
-      differ same
-
-pub rest_ends : {X : Type 0} (xs ys : List X) (i : ℕ) → length xs ≤ i → length ys ≤ i → RestSame xs ys i → xs ≡ ys
-rest_ends xs ys i one two rest = rest.0 (drop_all i xs one ∙ sym (drop_all i ys two))
 
 pub longer : {X : Type 0} (xs ys : List X) → (length xs ≡ length ys → ⊥) → xs ≡ ys → ⊥
 longer xs ys differ same = differ (ap length same)

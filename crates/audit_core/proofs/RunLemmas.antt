@@ -74,11 +74,11 @@ runs_push place (first ∷ runs) run follow is =
     let own = length-replicate first.item.count first.key in
     (follow.0, runs_push (place + first.item.count) runs run follow.1 (omega (arith, is, count, own)))
 
-pub runs_front : (place : ℕ) (runs : List (Keyed Run)) (run : Keyed Run) → AreRunsFrom place (runs ++ run ∷ [])
+pub runs_prefix : (place : ℕ) (runs : List (Keyed Run)) (run : Keyed Run) → AreRunsFrom place (runs ++ run ∷ [])
     → AreRunsFrom place runs × (run.item.first ≡ place + length (epochs_of runs))
-runs_front place [] run follow = (tt, omega (arith, follow.0))
-runs_front place (first ∷ runs) run follow =
-    let rest = runs_front (place + first.item.count) runs run follow.1 in
+runs_prefix place [] run follow = (tt, omega (arith, follow.0))
+runs_prefix place (first ∷ runs) run follow =
+    let rest = runs_prefix (place + first.item.count) runs run follow.1 in
     let count = length-append (its_epochs first) (epochs_of runs) in
     let own = length-replicate first.item.count first.key in
     ((follow.0, rest.0), omega (arith, rest.1, count, own))
@@ -108,7 +108,7 @@ module _ (runs : List (Keyed Run)) (m : ℕ) (last new : Keyed Run) (many : leng
 
   pub longer_follow : AreRunsFrom 0 runs → AreRunsFrom 0 (set runs m new)
   longer_follow follow =
-      let parts = runs_front 0 (take m runs) last
+      let parts = runs_prefix 0 (take m runs) last
       (subst (AreRunsFrom 0) (split_last runs m last many is) follow) in
       subst (AreRunsFrom 0) (sym (set_last runs m new many))
       (runs_push 0 (take m runs) new parts.0 (first ∙ parts.1))
@@ -172,17 +172,17 @@ module _ (old new text : List ℕ) (entries : List Entry) (one : Entry) (adds : 
       subst (λ (r : Keyed Run). IsRunOf old entries r.item) (sym at) (each m last (omega (arith, many))) in
       subst (All (λ (r : Keyed Run). IsRunOf new (entries ++ one ∷ []) r.item)) (sym (set_last runs m longer many))
       (All-push (λ (r : Keyed Run). IsRunOf new (entries ++ one ∷ []) r.item) (take m runs) longer
-      (all_front (λ (r : Keyed Run). IsRunOf new (entries ++ one ∷ []) r.item) (take m runs) last
+      (all_prefix (λ (r : Keyed Run). IsRunOf new (entries ++ one ∷ []) r.item) (take m runs) last
       (subst (All (λ (r : Keyed Run). IsRunOf new (entries ++ one ∷ []) r.item)) (split_last runs m last many at)
       (each_stays runs each)))
       (run_stays last.item longer.item first from (omega (arith, count))
       (inr (omega (arith, of_last.within, first, count))) of_last))
     where
-      all_front : {X : Type 0} (P : X → Type 0) (xs : List X) (x : X) → All P (xs ++ x ∷ []) → All P xs
-      all_front P [] x all = All-nil P
-      all_front P (y ∷ xs) x all =
+      all_prefix : {X : Type 0} (P : X → Type 0) (xs : List X) (x : X) → All P (xs ++ x ∷ []) → All P xs
+      all_prefix P [] x all = All-nil P
+      all_prefix P (y ∷ xs) x all =
           All-cons P y xs (All-head P y (xs ++ x ∷ []) all)
-          (all_front P xs x (All-tail P y (xs ++ x ∷ []) all))
+          (all_prefix P xs x (All-tail P y (xs ++ x ∷ []) all))
 
 -- the runs of a number
 under_cons : {T : Type 0} (k : ℕ) (one : Keyed T) (runs : List (Keyed T)) (test : Bool) → (one.key == k) ≡ test

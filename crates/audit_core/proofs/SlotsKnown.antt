@@ -19,7 +19,7 @@ module _ {X : Type 0} (whose : X → ℕ) (slots : ℕ) (told : List (Bor X)) (i
       → AreOfSlots whose slots (take i (lent told)) → slots ≤ whose one.now
       → IsFirstBeyond whose slots (lent told) one.now
   first_beyond one low at known beyond = record {
-    front = take i (lent told);
+    prefix = take i (lent told);
     later = drop (i + 1) (lent told);
     parts = mapped_parts (λ (b : Bor X). b.now) told i one low at;
     known = known;

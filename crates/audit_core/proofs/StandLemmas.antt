@@ -19,7 +19,7 @@ use Rattle.lawful_run.specs.Moves.{behind_last_move, is_moved}
 use Rattle.lawful_run.specs.Parking.{MayPark, ParkedAs, parked_told}
 use Rattle.lawful_run.specs.Refusals.{MayRefuse, RefusedAs, lane_load, slot_by, slot_count}
 use Rattle.lawful_run.specs.Setup.{Setup, sliced, solo}
-use Rattle.audit_core.specs.Fronts.{InSequence, MayStand, count_due, due_of}
+use Rattle.audit_core.specs.FirstLines.{InSequence, MayStand, count_due, due_of}
 use Rattle.audit_core.specs.Meant.{slot_in}
 use Rattle.audit_core.specs.Setups.{setup_of}
 use Rattle.audit_core.specs.Walking.{AllWait, SlotWaits, may_park, may_refuse, may_stand, one_new, waits_due}
@@ -31,91 +31,91 @@ use Rattle.audit_core.proofs.WalkLemmas.{slots_with}
 
 -- each line with those before it, and one line more
 abbrev Each : (List LineTold → LineTold → Type 0) → List LineTold → List LineTold → Type 0
-Each Q before lines = EachFrom (λ front now later. Q front now) before lines
+Each Q before lines = EachFrom (λ prefix now later. Q prefix now) before lines
 
 each_more : (Q : List LineTold → LineTold → Type 0) (before lines : List LineTold) (now : LineTold)
     → Each Q before lines → Q (before ++ lines) now → Each Q before (lines ++ now ∷ [])
-each_more Q before [] now each here = (subst (λ front. Q front now) (append-nil before) here, tt)
+each_more Q before [] now each here = (subst (λ prefix. Q prefix now) (append-nil before) here, tt)
 each_more Q before (first ∷ lines) now each here = (
   each.0,
   each_more Q (before ++ first ∷ []) lines now each.1
-      (subst (λ front. Q front now) (sym (append_assoc before (first ∷ []) lines)) here),
+      (subst (λ prefix. Q prefix now) (sym (append_assoc before (first ∷ []) lines)) here),
 )
 
 each_last : (Q : List LineTold → LineTold → Type 0) (before lines : List LineTold) (now : LineTold)
     → Each Q before (lines ++ now ∷ []) → Q (before ++ lines) now
-each_last Q before [] now each = subst (λ front. Q front now) (sym (append-nil before)) each.0
+each_last Q before [] now each = subst (λ prefix. Q prefix now) (sym (append-nil before)) each.0
 each_last Q before (first ∷ lines) now each =
-    subst (λ front. Q front now) (append_assoc before (first ∷ []) lines)
+    subst (λ prefix. Q prefix now) (append_assoc before (first ∷ []) lines)
     (each_last Q (before ++ first ∷ []) lines now each.1)
 
 -- a line that may stand behind others
 abbrev SequenceAs : Setup → Histories → List LineTold → LineTold → Type 0
-SequenceAs solo histories front now = MeetsAs solo histories front now.entry []
-SequenceAs (sliced slices room lane) histories front now = Unit {0}
+SequenceAs solo histories prefix now = MeetsAs solo histories prefix now.entry []
+SequenceAs (sliced slices room lane) histories prefix now = Unit {0}
 
 abbrev pub LineStands : Setup → Histories → List LineTold → LineTold → Type 0
-LineStands setup histories front now =
-    RefusedAs setup front now now.entry × (ParkedAs front now.entry × SequenceAs setup histories front now)
+LineStands setup histories prefix now =
+    RefusedAs setup prefix now now.entry × (ParkedAs prefix now.entry × SequenceAs setup histories prefix now)
 
-meets_any : (histories : Histories) (front later : List LineTold) (entry : LineEntry)
-    → MeetsAs solo histories front entry [] → MeetsAs solo histories front entry later
-meets_any histories front later (line.N noted) meets = tt
-meets_any histories front later (line.C answered) meets = tt
-meets_any histories front later (line.P judged) meets = meets
-meets_any histories front later (line.F refused) meets = tt
+meets_any : (histories : Histories) (prefix later : List LineTold) (entry : LineEntry)
+    → MeetsAs solo histories prefix entry [] → MeetsAs solo histories prefix entry later
+meets_any histories prefix later (line.N noted) meets = tt
+meets_any histories prefix later (line.C answered) meets = tt
+meets_any histories prefix later (line.P judged) meets = meets
+meets_any histories prefix later (line.F refused) meets = tt
 
-any_meets : (histories : Histories) (front later : List LineTold) (entry : LineEntry)
-    → MeetsAs solo histories front entry later → MeetsAs solo histories front entry []
-any_meets histories front later (line.N noted) meets = tt
-any_meets histories front later (line.C answered) meets = tt
-any_meets histories front later (line.P judged) meets = meets
-any_meets histories front later (line.F refused) meets = tt
+any_meets : (histories : Histories) (prefix later : List LineTold) (entry : LineEntry)
+    → MeetsAs solo histories prefix entry later → MeetsAs solo histories prefix entry []
+any_meets histories prefix later (line.N noted) meets = tt
+any_meets histories prefix later (line.C answered) meets = tt
+any_meets histories prefix later (line.P judged) meets = meets
+any_meets histories prefix later (line.F refused) meets = tt
 
 -- on one thread
 abbrev Meets : Histories → List LineTold → LineTold → Type 0
-Meets histories front now = MeetsAs solo histories front now.entry []
+Meets histories prefix now = MeetsAs solo histories prefix now.entry []
 
 in_line : (histories : Histories) (before lines : List LineTold)
-    → EachFrom (λ front now later. MeetsAs solo histories front now.entry later) before lines
+    → EachFrom (λ prefix now later. MeetsAs solo histories prefix now.entry later) before lines
     → Each (Meets histories) before lines
 in_line histories before [] each = tt
 in_line histories before (now ∷ later) each =
     (any_meets histories before later now.entry each.0, in_line histories (before ++ now ∷ []) later each.1)
 
 of_line : (histories : Histories) (before lines : List LineTold) → Each (Meets histories) before lines
-    → EachFrom (λ front now later. MeetsAs solo histories front now.entry later) before lines
+    → EachFrom (λ prefix now later. MeetsAs solo histories prefix now.entry later) before lines
 of_line histories before [] each = tt
 of_line histories before (now ∷ later) each =
     (meets_any histories before later now.entry each.0, of_line histories (before ++ now ∷ []) later each.1)
 
-pub stand_more : (setup : Setup) (histories : Histories) (front : List LineTold) (now : LineTold)
-    → MayStand setup histories front → LineStands setup histories front now
-    → MayStand setup histories (front ++ now ∷ [])
-stand_more solo histories front now may here = record {
-  refusals = each_more (λ f t. RefusedAs solo f t t.entry) [] front now may.refusals here.0;
-  parking = each_more (λ f t. ParkedAs f t.entry) [] front now may.parking here.1.0;
-  sequence = of_line histories [] (front ++ now ∷ [])
-      (each_more (Meets histories) [] front now (in_line histories [] front may.sequence) here.1.1);
+pub stand_more : (setup : Setup) (histories : Histories) (prefix : List LineTold) (now : LineTold)
+    → MayStand setup histories prefix → LineStands setup histories prefix now
+    → MayStand setup histories (prefix ++ now ∷ [])
+stand_more solo histories prefix now may here = record {
+  refusals = each_more (λ f t. RefusedAs solo f t t.entry) [] prefix now may.refusals here.0;
+  parking = each_more (λ f t. ParkedAs f t.entry) [] prefix now may.parking here.1.0;
+  sequence = of_line histories [] (prefix ++ now ∷ [])
+      (each_more (Meets histories) [] prefix now (in_line histories [] prefix may.sequence) here.1.1);
 }
-stand_more (sliced slices room lane) histories front now may here = record {
-  refusals = each_more (λ f t. RefusedAs (sliced slices room lane) f t t.entry) [] front now may.refusals here.0;
-  parking = each_more (λ f t. ParkedAs f t.entry) [] front now may.parking here.1.0;
+stand_more (sliced slices room lane) histories prefix now may here = record {
+  refusals = each_more (λ f t. RefusedAs (sliced slices room lane) f t t.entry) [] prefix now may.refusals here.0;
+  parking = each_more (λ f t. ParkedAs f t.entry) [] prefix now may.parking here.1.0;
   sequence = tt;
 }
 
-pub stand_last : (setup : Setup) (histories : Histories) (front : List LineTold) (now : LineTold)
-    → MayStand setup histories (front ++ now ∷ []) → LineStands setup histories front now
-stand_last solo histories front now may = (
-  each_last (λ f t. RefusedAs solo f t t.entry) [] front now may.refusals,
+pub stand_last : (setup : Setup) (histories : Histories) (prefix : List LineTold) (now : LineTold)
+    → MayStand setup histories (prefix ++ now ∷ []) → LineStands setup histories prefix now
+stand_last solo histories prefix now may = (
+  each_last (λ f t. RefusedAs solo f t t.entry) [] prefix now may.refusals,
   (
-    each_last (λ f t. ParkedAs f t.entry) [] front now may.parking,
-    each_last (Meets histories) [] front now (in_line histories [] (front ++ now ∷ []) may.sequence),
+    each_last (λ f t. ParkedAs f t.entry) [] prefix now may.parking,
+    each_last (Meets histories) [] prefix now (in_line histories [] (prefix ++ now ∷ []) may.sequence),
   ),
 )
-stand_last (sliced slices room lane) histories front now may = (
-  each_last (λ f t. RefusedAs (sliced slices room lane) f t t.entry) [] front now may.refusals,
-  (each_last (λ f t. ParkedAs f t.entry) [] front now may.parking, tt),
+stand_last (sliced slices room lane) histories prefix now may = (
+  each_last (λ f t. RefusedAs (sliced slices room lane) f t t.entry) [] prefix now may.refusals,
+  (each_last (λ f t. ParkedAs f t.entry) [] prefix now may.parking, tt),
 )
 
 -- what tests decide
@@ -151,40 +151,40 @@ all_decide (x ∷ xs) =
     )
 
 -- a packet is parked where it may be
-parks_so : (may parked : Bool) (slot at : ℕ) (front : List LineTold) → may ≡ may_park at front → slot ≡ at
-    → Decides (may || not parked) (MayPark parked slot front)
-parks_so may false slot at front is same = (λ yes. tt, λ holds. either may)
+parks_so : (may parked : Bool) (slot at : ℕ) (prefix : List LineTold) → may ≡ may_park at prefix → slot ≡ at
+    → Decides (may || not parked) (MayPark parked slot prefix)
+parks_so may false slot at prefix is same = (λ yes. tt, λ holds. either may)
   where
     either : (b : Bool) → (b || true) ≡ true
     either true = refl
     either false = refl
-parks_so may true slot at front is same =
-    subst (λ s. Decides (may || false) (MayPark true s front)) (sym same)
-    (subst (λ test. Decides test (MayPark true at front)) (sym (alone may ∙ is))
-    (both_decide (is_moved at front) (list_all (λ (p : Bool). p) (filter_map (parked_told at) (behind_last_move at front)))
-    (itself (is_moved at front)) (all_decide (filter_map (parked_told at) (behind_last_move at front)))))
+parks_so may true slot at prefix is same =
+    subst (λ s. Decides (may || false) (MayPark true s prefix)) (sym same)
+    (subst (λ test. Decides test (MayPark true at prefix)) (sym (alone may ∙ is))
+    (both_decide (is_moved at prefix) (list_all (λ (p : Bool). p) (filter_map (parked_told at) (behind_last_move at prefix)))
+    (itself (is_moved at prefix)) (all_decide (filter_map (parked_told at) (behind_last_move at prefix)))))
   where
     alone : (b : Bool) → (b || false) ≡ b
     alone true = refl
     alone false = refl
 
 -- on one thread a packet has just the commands before it
-meets_so : (alone : Bool) (slices room lane commands : ℕ) (histories : Histories) (front : List LineTold)
+meets_so : (alone : Bool) (slices room lane commands : ℕ) (histories : Histories) (prefix : List LineTold)
     (now : LineTold) (judged : PacketTold) → now.entry ≡ line.P judged
-    → commands ≡ count_in_sequence histories judged.slot front
+    → commands ≡ count_in_sequence histories judged.slot prefix
     → Decides (not alone || judged.commands == commands)
-    (SequenceAs (setup_of (record { solo = alone; slices = slices; room = room; lane = lane })) histories front now)
-meets_so false slices room lane commands histories front now judged is count = (λ yes. tt, λ holds. refl)
-meets_so true slices room lane commands histories front now judged is count =
-    subst (λ e. Decides (judged.commands == commands) (MeetsAs solo histories front e [])) (sym is)
+    (SequenceAs (setup_of (record { solo = alone; slices = slices; room = room; lane = lane })) histories prefix now)
+meets_so false slices room lane commands histories prefix now judged is count = (λ yes. tt, λ holds. refl)
+meets_so true slices room lane commands histories prefix now judged is count =
+    subst (λ e. Decides (judged.commands == commands) (MeetsAs solo histories prefix e [])) (sym is)
     (subst (λ k. Decides (judged.commands == commands) (judged.commands ≡ k)) count
     (Decides-eqb judged.commands commands))
 
 -- a line that tells nothing of commands
-no_sequence : (setup : Setup) (histories : Histories) (front : List LineTold) (now : LineTold)
-    → MeetsAs solo histories front now.entry [] → SequenceAs setup histories front now
-no_sequence solo histories front now meets = meets
-no_sequence (sliced slices room lane) histories front now meets = tt
+no_sequence : (setup : Setup) (histories : Histories) (prefix : List LineTold) (now : LineTold)
+    → MeetsAs solo histories prefix now.entry [] → SequenceAs setup histories prefix now
+no_sequence solo histories prefix now meets = meets
+no_sequence (sliced slices room lane) histories prefix now meets = tt
 
 -- the numbers that are held are those of the lines
 refused_so : (alone : Bool) (slices room lane : ℕ) (of_packet : Bool) (own : Own) (load : AcceptedLoad) (at : ℕ)

@@ -10,11 +10,11 @@ module _ (made told : List ChargeEntry) where
       → Surplus made told (first_of (drop at told))
   surplus_none at past none =
       subst (λ rest. Surplus made told (first_of rest)) (sym (drop_all at told past))
-      (λ front later open_ parts many.
-      let count : length told ≡ length front + length (open_ ∷ later) =
-      ap length parts ∙ length-append front (open_ ∷ later) in
-      none (length front) (omega (arith, count)) (record {
-        front = front;
+      (λ prefix later open_ parts many.
+      let count : length told ≡ length prefix + length (open_ ∷ later) =
+      ap length parts ∙ length-append prefix (open_ ∷ later) in
+      none (length prefix) (omega (arith, count)) (record {
+        prefix = prefix;
         open_ = open_;
         later = later;
         parts = parts;
@@ -26,19 +26,19 @@ module _ (made told : List ChargeEntry) where
       → Surplus made told (first_of (drop at told))
   surplus_some at is none =
       let tail = is.open_ ∷ is.later in
-      let rest : drop at told ≡ tail = ap (drop at) is.parts ∙ drop_at is.front tail at is.behind in
+      let rest : drop at told ≡ tail = ap (drop at) is.parts ∙ drop_at is.prefix tail at is.behind in
       subst (λ xs. Surplus made told (first_of xs)) (sym rest) (record {
-        front = is.front;
+        prefix = is.prefix;
         later = is.later;
         parts = is.parts;
-        before = λ front later open_ parts many.
-            let count : length is.front ≡ length front + length (open_ ∷ later) =
-            ap length parts ∙ length-append front (open_ ∷ later) in
-            none (length front) (omega (arith, count, is.behind)) (record {
-              front = front;
+        before = λ prefix later open_ parts many.
+            let count : length is.prefix ≡ length prefix + length (open_ ∷ later) =
+            ap length parts ∙ length-append prefix (open_ ∷ later) in
+            none (length prefix) (omega (arith, count, is.behind)) (record {
+              prefix = prefix;
               open_ = open_;
               later = later ++ tail;
-              parts = is.parts ∙ ap (λ (xs : List ChargeEntry). xs ++ tail) parts ∙ append_assoc front (open_ ∷ later) tail;
+              parts = is.parts ∙ ap (λ (xs : List ChargeEntry). xs ++ tail) parts ∙ append_assoc prefix (open_ ∷ later) tail;
               behind = refl;
               too_many = many;
             });
@@ -50,7 +50,7 @@ module _ (made told : List ChargeEntry) where
       → IsTooMany made (take at told) open_ ↔ IsTooManyAt made told at
   too_many_at at open_ parts low = (
     (λ many. record {
-      front = take at told;
+      prefix = take at told;
       open_ = open_;
       later = drop (at + 1) told;
       parts = parts;
@@ -58,12 +58,12 @@ module _ (made told : List ChargeEntry) where
       too_many = many;
     }),
     (λ is.
-        let front : take at told ≡ is.front =
-        ap (take at) is.parts ∙ take_at is.front (is.open_ ∷ is.later) at is.behind in
+        let prefix : take at told ≡ is.prefix =
+        ap (take at) is.parts ∙ take_at is.prefix (is.open_ ∷ is.later) at is.behind in
         let both : open_ ∷ drop (at + 1) told ≡ is.open_ ∷ is.later =
         sym (drop_at (take at told) (open_ ∷ drop (at + 1) told) at (length-take-le at told (omega (arith, low))))
-        ∙ ap (drop at) (sym parts ∙ is.parts) ∙ drop_at is.front (is.open_ ∷ is.later) at is.behind in
+        ∙ ap (drop at) (sym parts ∙ is.parts) ∙ drop_at is.prefix (is.open_ ∷ is.later) at is.behind in
         let same : open_ ≡ is.open_ = cc in
         subst (λ o. IsTooMany made (take at told) o) (sym same)
-        (subst (λ xs. IsTooMany made xs is.open_) (sym front) is.too_many)),
+        (subst (λ xs. IsTooMany made xs is.open_) (sym prefix) is.too_many)),
   )

@@ -15,20 +15,20 @@ use Rattle.audit_core.proofs.Differing.{mapped_parts}
 use Rattle.audit_core.proofs.SurplusLemmas.{too_many_at}
 
 -- among those of its slot
-pub many_own : (due front known before : List ChargeEntry) (x : ChargeEntry) (s : ℕ) → s ≡ slot_charged x
-    → known ≡ of_slot slot_charged s due → before ≡ of_slot slot_charged s front
-    → IsTooMany known before x ↔ IsTooMany due front x
-many_own due front known before x s its known_is before_is =
+pub many_own : (due prefix known before : List ChargeEntry) (x : ChargeEntry) (s : ℕ) → s ≡ slot_charged x
+    → known ≡ of_slot slot_charged s due → before ≡ of_slot slot_charged s prefix
+    → IsTooMany known before x ↔ IsTooMany due prefix x
+many_own due prefix known before x s its known_is before_is =
     let knows : Contains due x → Contains known x =
     λ there. subst (λ xs. Contains xs x) (sym (known_is ∙ ap (λ k. of_slot slot_charged k due) its))
     (of_its_slot slot_charged due x there) in
     let known_all : Contains known x → Contains due x =
     λ there. of_all slot_charged due x s (subst (λ xs. Contains xs x) known_is there) in
-    let stands : Contains front x → Contains before x =
-    λ there. subst (λ xs. Contains xs x) (sym (before_is ∙ ap (λ k. of_slot slot_charged k front) its))
-    (of_its_slot slot_charged front x there) in
-    let stands_all : Contains before x → Contains front x =
-    λ there. of_all slot_charged front x s (subst (λ xs. Contains xs x) before_is there) in (
+    let stands : Contains prefix x → Contains before x =
+    λ there. subst (λ xs. Contains xs x) (sym (before_is ∙ ap (λ k. of_slot slot_charged k prefix) its))
+    (of_its_slot slot_charged prefix x there) in
+    let stands_all : Contains before x → Contains prefix x =
+    λ there. of_all slot_charged prefix x s (subst (λ xs. Contains xs x) before_is there) in (
       (λ many. elim many [
         | inl again ↦ inl (stands_all again)
         | inr none ↦ inr (λ there. none (knows there))
@@ -40,9 +40,9 @@ many_own due front known before x s its known_is before_is =
     )
 
 -- of a slot that there isn't
-pub many_beyond : (due front : List ChargeEntry) (x : ChargeEntry) (slots : ℕ)
-    → All (λ charge. slot_charged charge < slots) due → slots ≤ slot_charged x → IsTooMany due front x
-many_beyond due front x slots known beyond =
+pub many_beyond : (due prefix : List ChargeEntry) (x : ChargeEntry) (slots : ℕ)
+    → All (λ charge. slot_charged charge < slots) due → slots ≤ slot_charged x → IsTooMany due prefix x
+many_beyond due prefix x slots known beyond =
     inr (λ there.
     let low : slot_charged x < slots = All-contains (λ charge. slot_charged charge < slots) due x known there in
     omega (arith, low, beyond))
@@ -64,8 +64,8 @@ module _ (due : List ChargeEntry) (tolds : List (Bor ChargeEntry)) (i : ℕ) (on
             few (many_here.1 (subst (IsTooManyAt due (lent tolds)) same many))
       ]
 
-  pub front_more : take (i + 1) (lent tolds) ≡ take i (lent tolds) ++ one.now ∷ []
-  front_more =
+  pub prefix_more : take (i + 1) (lent tolds) ≡ take i (lent tolds) ++ one.now ∷ []
+  prefix_more =
       take-map (λ (b : Bor ChargeEntry). b.now) (i + 1) tolds
       ∙ ap lent (take_more tolds i one within)
       ∙ map-append (λ (b : Bor ChargeEntry). b.now) (take i tolds) (get_or tolds i one ∷ [])
@@ -80,4 +80,4 @@ module _ (due : List ChargeEntry) (tolds : List (Bor ChargeEntry)) (i : ℕ) (on
       ∙ ap (λ lists. put_in lists s one.now) before
       ∙ ap (λ k. put_in (each_slot slot_charged slots (take i (lent tolds))) k one.now) its
       ∙ each_more slot_charged slots (take i (lent tolds)) one.now
-      ∙ ap (each_slot slot_charged slots) (sym front_more)
+      ∙ ap (each_slot slot_charged slots) (sym prefix_more)

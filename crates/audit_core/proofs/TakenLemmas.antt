@@ -25,13 +25,14 @@ use Rattle.audit_core.specs.Belonging.{ends_from}
 use Rattle.audit_core.specs.Entries.{all_lines}
 use Rattle.audit_core.specs.Heard.{SaysTrace}
 use Rattle.audit_core.specs.Holding.{AreKnown, IsKnown}
-use Rattle.audit_core.specs.Kept.{ArePlaced, Keeps, meaning_in, meanings_in}
+use Rattle.slot_execution.specs.Kept.{meaning_in}
+use Rattle.audit_core.specs.Kept.{ArePlaced, Keeps, meanings_in}
 use Rattle.audit_core.specs.Said.{trace_from}
 use Rattle.audit_core.specs.Setups.{input_with, stop_of}
 use Rattle.pc_outside.specs.Texts.{Text}
 use Rattle.audit_core.specs.TraceTaken.{HasTakenTrace, IsClosed, LeavesRest, TakesLines, has_stopped, weight_of}
-use Rattle.audit_core.specs.declared.kept.KeptMeaning.{KeptMeaning}
-use Rattle.audit_core.specs.declared.kept.KeptMeaning.TheVariants as kept
+use Rattle.slot_execution.specs.declared.kept.KeptMeaning.{KeptMeaning}
+use Rattle.slot_execution.specs.declared.kept.KeptMeaning.TheVariants as kept
 use Rattle.audit_core.specs.declared.setup.BadAt.{BadAt}
 use Rattle.audit_core.specs.declared.trace.Trace.{Trace}
 use Rattle.audit_core.proofs.CutLemmas.{all_own, epochs_mean}
@@ -41,12 +42,12 @@ use Rattle.audit_core.proofs.KnownLemmas.{told_known}
 use Rattle.audit_core.proofs.SaidLemmas.{next_bad, next_line, some_text}
 
 -- lines that come in time, with one more
-later_more : (latest : ℕ) (lines : List Line) (line : Line) → AreLater latest lines
+pub later_more : (latest : ℕ) (lines : List Line) (line : Line) → AreLater latest lines
     → latest_behind latest lines ≤ line.moment → AreLater latest (lines ++ line ∷ [])
 later_more latest [] line later late = (late, tt)
 later_more latest (first ∷ lines) line later late = (later.0, later_more first.moment lines line later.1 late)
 
-latest_more : (latest : ℕ) (lines : List Line) (line : Line)
+pub latest_more : (latest : ℕ) (lines : List Line) (line : Line)
     → latest_behind latest (lines ++ line ∷ []) ≡ line.moment
 latest_more latest [] line = refl
 latest_more latest (first ∷ lines) line = latest_more first.moment lines line
@@ -71,7 +72,7 @@ few_noted : (stop : Option BadAt) → length (stop_noted (stop_of stop)) ≤ 1
 few_noted None = omega arith
 few_noted (Some at) = omega arith
 
-known_noted : (slots : ℕ) (stop : Option BadAt) → All (IsKnown slots) (stop_noted (stop_of stop))
+pub known_noted : (slots : ℕ) (stop : Option BadAt) → All (IsKnown slots) (stop_noted (stop_of stop))
 known_noted slots None = All-nil (IsKnown slots)
 known_noted slots (Some at) = All-cons (IsKnown slots) _ [] tt (All-nil (IsKnown slots))
 
@@ -389,7 +390,7 @@ taken_none trace slices takes stopped least = record {
   takes = takes;
 }
 
-not_stopped : (stop : Option BadAt) → has_stopped stop ≡ false → stop ≡ None
+pub not_stopped : (stop : Option BadAt) → has_stopped stop ≡ false → stop ≡ None
 not_stopped None is = refl
 not_stopped (Some at) is = absurd (no is)
   where

@@ -84,33 +84,33 @@ solo_within start before (line.P judged) later meets =
     meets_in_sequence (sliced 1 1 1) start judged.slot before later judged.commands meets
 solo_within start before (line.F refused) later meets = tt
 
-counts_there : (setup : Setup) (slots first : ℕ) (before : Histories) (now : List Meaning) (told : EpochReport)
+pub counts_there : (setup : Setup) (slots first : ℕ) (before : Histories) (now : List Meaning) (told : EpochReport)
     → IsEpochRun setup slots first before now told → CountsAreLawful before (told_in now told)
 counts_there solo slots first before now told run =
     (counts_of_slots 1 1 1 before first now told.lines run.one_each).0 (record {
       counts_rise = run.counts_rise;
       bounds = each_gives (MeetsBounds solo before) (MeetsBounds (sliced 1 1 1) before)
-          (λ front this later. solo_within before front this.entry later) [] (told_in now told) run.bounds;
+          (λ prefix this later. solo_within before prefix this.entry later) [] (told_in now told) run.bounds;
     })
 counts_there (sliced slices room lane) slots first before now told run =
     (counts_of_slots slices room lane before first now told.lines run.one_each).0
     (record { counts_rise = run.counts_rise; bounds = run.bounds })
 
 module _ (setup : Setup) (slots : ℕ) where
-  numbers_there : (first : ℕ) (before : Histories) (now : List Meaning) (told : EpochReport)
+  pub numbers_there : (first : ℕ) (before : Histories) (now : List Meaning) (told : EpochReport)
       → IsEpochRun setup slots first before now told → AreNumbered before (told_in now told)
   numbers_there first before now told run =
       (numbers_of_slots before first now told.lines run.one_each).0
       (record { command_numbers = run.command_numbers; packet_numbers = run.packet_numbers })
 
-  gateway_there : (first : ℕ) (before : Histories) (now : List Meaning) (told : EpochReport)
+  pub gateway_there : (first : ℕ) (before : Histories) (now : List Meaning) (told : EpochReport)
       → IsEpochRun setup slots first before now told → AreOfTheGateway before (told_in now told)
   gateway_there first before now told run = record {
     replies = λ slot. told_entries (reply_told slot) first now told.lines run.one_each ∙ run.replies slot;
     verdicts = λ slot. told_entries (verdict_told slot) first now told.lines run.one_each ∙ run.verdicts slot;
   }
 
-  waits_there : (first : ℕ) (before : Histories) (now : List Meaning) (told : EpochReport)
+  pub waits_there : (first : ℕ) (before : Histories) (now : List Meaning) (told : EpochReport)
       → IsEpochRun setup slots first before now told → WaitsAreLawful setup before (told_in now told)
   waits_there first before now told run =
       record { refusals = run.refusals; parking = run.parking; counts = run.bounds }

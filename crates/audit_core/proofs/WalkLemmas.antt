@@ -1,9 +1,8 @@
 -- What each slot had, and all, behind one line more of an epoch.
-use Rattle.std.proofs.Common.{◌≡◌, ℕ, ◌+◌, ◌<◌, ◌≤◌, ◌==◌, ◌||◌, Bool, true, false, if◌then◌else◌, Option, None, Some, List, [], ◌∷◌, ◌++◌, length, replicate, get_or, set, get_or-set_same, get_or-set_other, length-set, cond, refl, sym, ap, subst, ◌∙◌, inl, inr, arith, append-nil, length-append}
+use Rattle.std.proofs.Common.{◌≡◌, ℕ, ◌+◌, ◌<◌, ◌≤◌, ◌==◌, ◌||◌, Bool, true, false, if◌then◌else◌, Option, None, Some, List, [], ◌∷◌, ◌++◌, length, get_or, set, get_or-set_same, get_or-set_other, length-set, cond, refl, sym, ap, subst, ◌∙◌, inl, inr, arith, append-nil, length-append}
 use Rattle.std.specs.List.{cons_option, filter_map, list_any}
 use Rattle.std.specs.Option.{option_map}
 use Rattle.std.proofs.lemmas.Bool.{cases_eq, eq-eqb, eqb-true, ne_eqb}
-use Rattle.std.proofs.lemmas.List.{get_or-replicate, length-replicate}
 use Rattle.std.proofs.lemmas.List.Elements.{filter_map-append}
 use Rattle.std.proofs.lemmas.List.Folds.{list_any-append}
 use Rattle.std.proofs.lemmas.List.Sums.{sum_by-append}
@@ -410,35 +409,3 @@ pub walks_same : (n : ℕ) (waits : Course) (slots : ℕ) (before : List LineTol
     → Walks waits slots (before ++ now ∷ [])
 walks_same n waits slots before now are answers is =
     noted_next n waits slots before now.meaning now.entry are answers is
-
--- nothing stands before the first line
-none_waits : (own : Own) (slot : ℕ) → own.seen ≡ false → own.moved ≡ false → own.may_park ≡ false → own.commands ≡ 0
-    → own.packets ≡ 0 → SlotWaits own slot []
-none_waits own slot seen moved may commands packets = record {
-  seen = seen;
-  moved = moved;
-  commands = commands;
-  packets = packets;
-  may = may;
-  few_commands = omega (arith, commands);
-  few_packets = omega (arith, packets);
-}
-
-pub walks_none : (course : Course) (none : Own) (slots : ℕ) → course.own.items ≡ replicate slots none
-    → none.seen ≡ false → none.moved ≡ false → none.may_park ≡ false → none.commands ≡ 0 → none.packets ≡ 0
-    → course.load.slots ≡ 0 → course.load.packets ≡ 0 → course.load.moves ≡ 0 → Walks course slots []
-walks_none course none slots items seen moved may commands packets of_slots of_packets of_moves = record {
-  places = ap length items ∙ length-replicate slots none;
-  each = λ slot other below.
-      subst (λ own. SlotWaits own slot [])
-      (sym (ap (λ l. get_or l slot other) items ∙ get_or-replicate slots slot none other below))
-      (none_waits none slot seen moved may commands packets);
-  all = record {
-    slots = of_slots;
-    packets = of_packets;
-    moves = of_moves;
-    few_slots = omega (arith, of_slots);
-    few_packets = omega (arith, of_packets);
-    few_moves = omega (arith, of_moves);
-  };
-}

@@ -13,7 +13,7 @@ use Rattle.lawful_run.specs.LinesTold.{LineTold}
 use Rattle.lawful_run.specs.Merging.{Histories}
 use Rattle.subscriber.specs.Standing.{SubscriberState, commands_met}
 use Rattle.at_rest.specs.Meant.{AreStanding}
-use Rattle.audit_core.specs.Fronts.{MayStand, due_of, number_due}
+use Rattle.audit_core.specs.FirstLines.{MayStand, due_of, number_due}
 use Rattle.audit_core.specs.Holding.{AreKnownTold, IsKnown}
 use Rattle.audit_core.specs.Meant.{line_told, lines_of, slot_in}
 use Rattle.audit_core.specs.OfSlot.{AreAnswered}
@@ -21,7 +21,7 @@ use Rattle.audit_core.specs.Sentences.{AreNumbered}
 use Rattle.audit_core.specs.Setups.{setup_of}
 use Rattle.audit_core.specs.Telling.{at_line}
 use Rattle.audit_core.specs.Walking.{AllWait, FewBefore, HasWalked, SlotWaits, Walks, may_stand, number_missed, waits_due}
-use Rattle.audit_core.specs.Why.{FrontBreak, NumberBreak, WaitBreak}
+use Rattle.audit_core.specs.Why.{PrefixBreak, NumberBreak, WaitBreak}
 use Rattle.audit_core.specs.declared.setup.Setup.{Setup as Given}
 use Rattle.audit_core.specs.declared.telling.Break.{Break}
 use Rattle.audit_core.specs.declared.told_line.ToldLine.{ToldLine}
@@ -34,15 +34,15 @@ use Rattle.audit_core.proofs.RestLemmas.{mapped_more}
 use Rattle.audit_core.proofs.StandLemmas.{LineStands, due_is, line_stands, none_stand, note_stands, stand_last, stand_more}
 
 -- what is broken first is broken first where more lines come behind
-front_longer : (P : List LineTold → Type 0) (due : List LineTold → LineEntry → List ℕ) (lines more : List LineTold)
-    (found : Break) → FrontBreak P due lines found → FrontBreak P due (lines ++ more) found
-front_longer P due lines more found breaks = record {
-  front = breaks.front;
+prefix_longer : (P : List LineTold → Type 0) (due : List LineTold → LineEntry → List ℕ) (lines more : List LineTold)
+    (found : Break) → PrefixBreak P due lines found → PrefixBreak P due (lines ++ more) found
+prefix_longer P due lines more found breaks = record {
+  prefix = breaks.prefix;
   now = breaks.now;
   first = record {
     later = breaks.first.later ++ more;
     parts = ap (λ l. l ++ more) breaks.first.parts
-        ∙ append_assoc breaks.front (breaks.now ∷ breaks.first.later) more;
+        ∙ append_assoc breaks.prefix (breaks.now ∷ breaks.first.later) more;
     holds = breaks.first.holds;
     broken = breaks.first.broken;
   };
@@ -50,20 +50,20 @@ front_longer P due lines more found breaks = record {
 }
 
 -- Of lines so far nothing was found, or the first that breaks it; so it is with one line more.
-module _ (P : List LineTold → Type 0) (due : List LineTold → LineEntry → List ℕ) (front : List LineTold)
+module _ (P : List LineTold → Type 0) (due : List LineTold → LineEntry → List ℕ) (prefix : List LineTold)
     (now : LineTold) where
   abbrev pub Stepped : Option Break → Type 0
-  Stepped new = IfSome new (FrontBreak P due (front ++ now ∷ [])) × IfNone new (P (front ++ now ∷ []))
+  Stepped new = IfSome new (PrefixBreak P due (prefix ++ now ∷ [])) × IfNone new (P (prefix ++ now ∷ []))
 
   abbrev pub Breaks : Break → Type 0
-  Breaks found = P front → (¬ P (front ++ now ∷ [])) × (found ≡ at_line now.entry (due front now.entry))
+  Breaks found = P prefix → (¬ P (prefix ++ now ∷ [])) × (found ≡ at_line now.entry (due prefix now.entry))
 
-  found_new : (found : Option Break) → P front → IfNone found (P front → P (front ++ now ∷ [])) → IfSome found Breaks
+  found_new : (found : Option Break) → P prefix → IfNone found (P prefix → P (prefix ++ now ∷ [])) → IfSome found Breaks
       → Stepped found
   found_new None holds more breaks = (tt, more holds)
   found_new (Some found) holds more breaks = (
     record {
-      front = front;
+      prefix = prefix;
       now = now;
       first = record { later = []; parts = refl; holds = holds; broken = (breaks holds).0 };
       is = (breaks holds).1;
@@ -72,110 +72,110 @@ module _ (P : List LineTold → Type 0) (due : List LineTold → LineEntry → L
   )
 
   pub stepped : (old new found : Option Break) → (old ≢ None → new ≡ old) → (old ≡ None → new ≡ found)
-      → IfSome old (FrontBreak P due front) → IfNone old (P front)
-      → IfNone found (P front → P (front ++ now ∷ [])) → IfSome found Breaks → Stepped new
+      → IfSome old (PrefixBreak P due prefix) → IfNone old (P prefix)
+      → IfNone found (P prefix → P (prefix ++ now ∷ [])) → IfSome found Breaks → Stepped new
   stepped None new found kept is some none more breaks =
       subst Stepped (sym (is refl)) (found_new found none more breaks)
   stepped (Some one) new found kept is some none more breaks =
       let same : new ≡ Some one = kept (λ no. cc) in
-      subst Stepped (sym same) (front_longer P due front (now ∷ []) one some, tt)
+      subst Stepped (sym same) (prefix_longer P due prefix (now ∷ []) one some, tt)
 
 -- numbers
-module _ (histories : Histories) (front : List LineTold) (now : LineTold) (n at commands packets : ℕ)
+module _ (histories : Histories) (prefix : List LineTold) (now : LineTold) (n at commands packets : ℕ)
     (answers : Answers n now.meaning now.entry) (is : slot_in now.meaning ≡ Some at)
-    (commands_are : commands ≡ length (commands_of (histories at)) + command_count at front)
-    (packets_are : packets ≡ length (packets_of (histories at)) + length (packets_accepted at front)) where
+    (commands_are : commands ≡ length (commands_of (histories at)) + command_count at prefix)
+    (packets_are : packets ≡ length (packets_of (histories at)) + length (packets_accepted at prefix)) where
   abbrev told_missed : Option ℕ → Option Break
   told_missed missed = option_map (λ due. at_line now.entry (decimal due)) missed
 
   same_missed : (missed : Option ℕ) → number_missed commands packets now.entry ≡ missed
-      → number_missed (length (commands_of (histories at)) + command_count at front)
-      (length (packets_of (histories at)) + length (packets_accepted at front)) now.entry ≡ missed
+      → number_missed (length (commands_of (histories at)) + command_count at prefix)
+      (length (packets_of (histories at)) + length (packets_accepted at prefix)) now.entry ≡ missed
   same_missed missed missed_is =
       (λ i. number_missed (sym commands_are i) (sym packets_are i) now.entry) ∙ missed_is
 
   numbers_none : (missed : Option ℕ) → number_missed commands packets now.entry ≡ missed
-      → IfNone (told_missed missed) (AreNumbered histories front → AreNumbered histories (front ++ now ∷ []))
+      → IfNone (told_missed missed) (AreNumbered histories prefix → AreNumbered histories (prefix ++ now ∷ []))
   numbers_none None missed_is =
-      numbers_more histories front now n answers
-      (λ slot about. subst (λ s. number_missed (length (commands_of (histories s)) + command_count s front)
-      (length (packets_of (histories s)) + length (packets_accepted s front)) now.entry ≡ None)
+      numbers_more histories prefix now n answers
+      (λ slot about. subst (λ s. number_missed (length (commands_of (histories s)) + command_count s prefix)
+      (length (packets_of (histories s)) + length (packets_accepted s prefix)) now.entry ≡ None)
       (sym (about_is now.meaning at slot is about)) (same_missed None missed_is))
   numbers_none (Some due) missed_is = tt
 
   numbers_some : (missed : Option ℕ) → number_missed commands packets now.entry ≡ missed
-      → IfSome (told_missed missed) (Breaks (AreNumbered histories) (number_due histories) front now)
+      → IfSome (told_missed missed) (Breaks (AreNumbered histories) (number_due histories) prefix now)
   numbers_some None missed_is = tt
   numbers_some (Some due) missed_is = λ are. (
-    numbers_break histories front now n at due answers (about_own now.meaning at is) (same_missed (Some due) missed_is)
+    numbers_break histories prefix now n at due answers (about_own now.meaning at is) (same_missed (Some due) missed_is)
         are,
-    ap (at_line now.entry) (missed_due histories front n at due now.meaning now.entry answers is
+    ap (at_line now.entry) (missed_due histories prefix n at due now.meaning now.entry answers is
         (same_missed (Some due) missed_is)),
   )
 
   pub numbers_stepped : (old new : Option Break) → (old ≢ None → new ≡ old)
       → (old ≡ None → new ≡ told_missed (number_missed commands packets now.entry))
-      → IfSome old (NumberBreak histories front) → IfNone old (AreNumbered histories front)
-      → Stepped (AreNumbered histories) (number_due histories) front now new
+      → IfSome old (NumberBreak histories prefix) → IfNone old (AreNumbered histories prefix)
+      → Stepped (AreNumbered histories) (number_due histories) prefix now new
   numbers_stepped old new kept found some none =
-      stepped (AreNumbered histories) (number_due histories) front now old new
+      stepped (AreNumbered histories) (number_due histories) prefix now old new
       (told_missed (number_missed commands packets now.entry)) kept found some none
       (numbers_none (number_missed commands packets now.entry) refl)
       (numbers_some (number_missed commands packets now.entry) refl)
 
 -- what waits
-module _ (setup : Given) (histories : Histories) (front : List LineTold) (now : LineTold) where
-  waits_none : (stands : Bool) (text : List ℕ) → Decides stands (LineStands (setup_of setup) histories front now)
+module _ (setup : Given) (histories : Histories) (prefix : List LineTold) (now : LineTold) where
+  waits_none : (stands : Bool) (text : List ℕ) → Decides stands (LineStands (setup_of setup) histories prefix now)
       → IfNone (if stands then None else Some (at_line now.entry text))
-      (MayStand (setup_of setup) histories front → MayStand (setup_of setup) histories (front ++ now ∷ []))
-  waits_none true text decides = λ may. stand_more (setup_of setup) histories front now may (decides.0 refl)
+      (MayStand (setup_of setup) histories prefix → MayStand (setup_of setup) histories (prefix ++ now ∷ []))
+  waits_none true text decides = λ may. stand_more (setup_of setup) histories prefix now may (decides.0 refl)
   waits_none false text decides = tt
 
-  waits_some : (stands : Bool) (text : List ℕ) → Decides stands (LineStands (setup_of setup) histories front now)
-      → text ≡ due_of (setup_of setup) histories front now.entry
+  waits_some : (stands : Bool) (text : List ℕ) → Decides stands (LineStands (setup_of setup) histories prefix now)
+      → text ≡ due_of (setup_of setup) histories prefix now.entry
       → IfSome (if stands then None else Some (at_line now.entry text))
-      (Breaks (MayStand (setup_of setup) histories) (due_of (setup_of setup) histories) front now)
+      (Breaks (MayStand (setup_of setup) histories) (due_of (setup_of setup) histories) prefix now)
   waits_some true text decides is = tt
   waits_some false text decides is = λ may. (
     λ whole.
-        let no : false ≡ true = decides.1 (stand_last (setup_of setup) histories front now whole) in
+        let no : false ≡ true = decides.1 (stand_last (setup_of setup) histories prefix now whole) in
         cc,
     ap (at_line now.entry) is,
   )
 
   pub waits_stepped : (stands : Bool) (text : List ℕ) (old new : Option Break)
-      → Decides stands (LineStands (setup_of setup) histories front now)
-      → text ≡ due_of (setup_of setup) histories front now.entry → (old ≢ None → new ≡ old)
+      → Decides stands (LineStands (setup_of setup) histories prefix now)
+      → text ≡ due_of (setup_of setup) histories prefix now.entry → (old ≢ None → new ≡ old)
       → (old ≡ None → new ≡ (if stands then None else Some (at_line now.entry text)))
-      → IfSome old (WaitBreak (setup_of setup) histories front) → IfNone old (MayStand (setup_of setup) histories front)
-      → Stepped (MayStand (setup_of setup) histories) (due_of (setup_of setup) histories) front now new
+      → IfSome old (WaitBreak (setup_of setup) histories prefix) → IfNone old (MayStand (setup_of setup) histories prefix)
+      → Stepped (MayStand (setup_of setup) histories) (due_of (setup_of setup) histories) prefix now new
   waits_stepped stands text old new decides is kept found some none =
-      stepped (MayStand (setup_of setup) histories) (due_of (setup_of setup) histories) front now old new
+      stepped (MayStand (setup_of setup) histories) (due_of (setup_of setup) histories) prefix now old new
       (if stands then None else Some (at_line now.entry text)) kept found some none (waits_none stands text decides)
       (waits_some stands text decides is)
 
 -- a line of a slot, walked
-pub walked_line : (setup : Given) (histories : Histories) (front : List LineTold) (now : LineTold) (old new : Walked)
+pub walked_line : (setup : Given) (histories : Histories) (prefix : List LineTold) (now : LineTold) (old new : Walked)
     (n at commands packets : ℕ) (own : Own) (load : AcceptedLoad) → Answers n now.meaning now.entry
     → slot_in now.meaning ≡ Some at
-    → commands ≡ length (commands_of (histories at)) + command_count at front
-    → packets ≡ length (packets_of (histories at)) + length (packets_accepted at front)
-    → SlotWaits own at front → AllWait load front
+    → commands ≡ length (commands_of (histories at)) + command_count at prefix
+    → packets ≡ length (packets_of (histories at)) + length (packets_accepted at prefix)
+    → SlotWaits own at prefix → AllWait load prefix
     → (old.numbers ≢ None → new.numbers ≡ old.numbers)
     → (old.numbers ≡ None → new.numbers
     ≡ option_map (λ due. at_line now.entry (decimal due)) (number_missed commands packets now.entry))
     → (old.waits ≢ None → new.waits ≡ old.waits)
     → (old.waits ≡ None → new.waits ≡ (if may_stand setup own load commands now.entry then None
     else Some (at_line now.entry (waits_due setup commands now.entry))))
-    → HasWalked setup histories front old → HasWalked setup histories (front ++ now ∷ []) new
-walked_line setup histories front now old new n at commands packets own load answers is commands_are packets_are waits all
+    → HasWalked setup histories prefix old → HasWalked setup histories (prefix ++ now ∷ []) new
+walked_line setup histories prefix now old new n at commands packets own load answers is commands_are packets_are waits all
     kept_numbers numbers kept_waits found_waits walked =
-    let first = numbers_stepped histories front now n at commands packets answers is commands_are packets_are
+    let first = numbers_stepped histories prefix now n at commands packets answers is commands_are packets_are
     old.numbers new.numbers kept_numbers numbers walked.numbers_some walked.numbers_none in
-    let second = waits_stepped setup histories front now (may_stand setup own load commands now.entry)
+    let second = waits_stepped setup histories prefix now (may_stand setup own load commands now.entry)
     (waits_due setup commands now.entry) old.waits new.waits
-    (line_stands setup n at commands own load histories front now.meaning now.entry waits all commands_are is answers)
-    (due_is setup n at commands histories front now.meaning now.entry commands_are is answers) kept_waits found_waits
+    (line_stands setup n at commands own load histories prefix now.meaning now.entry waits all commands_are is answers)
+    (due_is setup n at commands histories prefix now.meaning now.entry commands_are is answers) kept_waits found_waits
     walked.waits_some walked.waits_none in
     record {
       numbers_some = first.0;
@@ -185,30 +185,30 @@ walked_line setup histories front now old new n at commands packets own load ans
     }
 
 -- a line of none
-note_some : (P : List LineTold → Type 0) (due : List LineTold → LineEntry → List ℕ) (front : List LineTold)
-    (now : LineTold) (old : Option Break) → IfSome old (FrontBreak P due front)
-    → IfSome old (FrontBreak P due (front ++ now ∷ []))
-note_some P due front now None some = tt
-note_some P due front now (Some found) some = front_longer P due front (now ∷ []) found some
+note_some : (P : List LineTold → Type 0) (due : List LineTold → LineEntry → List ℕ) (prefix : List LineTold)
+    (now : LineTold) (old : Option Break) → IfSome old (PrefixBreak P due prefix)
+    → IfSome old (PrefixBreak P due (prefix ++ now ∷ []))
+note_some P due prefix now None some = tt
+note_some P due prefix now (Some found) some = prefix_longer P due prefix (now ∷ []) found some
 
 note_none : (P : Type 0) (Q : Type 0) (old : Option Break) → (P → Q) → IfNone old P → IfNone old Q
 note_none P Q None from none = from none
 note_none P Q (Some found) from none = tt
 
-pub walked_note : (setup : Given) (histories : Histories) (front : List LineTold) (now : LineTold) (walked : Walked)
-    (n : ℕ) → Answers n now.meaning now.entry → slot_in now.meaning ≡ None → HasWalked setup histories front walked
-    → HasWalked setup histories (front ++ now ∷ []) walked
-walked_note setup histories front now walked n answers is has = record {
-  numbers_some = note_some (AreNumbered histories) (number_due histories) front now walked.numbers has.numbers_some;
-  numbers_none = note_none (AreNumbered histories front) (AreNumbered histories (front ++ now ∷ [])) walked.numbers
-      (numbers_more histories front now n answers (λ slot about. absurd (none_about now.meaning slot is about)))
+pub walked_note : (setup : Given) (histories : Histories) (prefix : List LineTold) (now : LineTold) (walked : Walked)
+    (n : ℕ) → Answers n now.meaning now.entry → slot_in now.meaning ≡ None → HasWalked setup histories prefix walked
+    → HasWalked setup histories (prefix ++ now ∷ []) walked
+walked_note setup histories prefix now walked n answers is has = record {
+  numbers_some = note_some (AreNumbered histories) (number_due histories) prefix now walked.numbers has.numbers_some;
+  numbers_none = note_none (AreNumbered histories prefix) (AreNumbered histories (prefix ++ now ∷ [])) walked.numbers
+      (numbers_more histories prefix now n answers (λ slot about. absurd (none_about now.meaning slot is about)))
       has.numbers_none;
-  waits_some = note_some (MayStand (setup_of setup) histories) (due_of (setup_of setup) histories) front now walked.waits
+  waits_some = note_some (MayStand (setup_of setup) histories) (due_of (setup_of setup) histories) prefix now walked.waits
       has.waits_some;
-  waits_none = note_none (MayStand (setup_of setup) histories front)
-      (MayStand (setup_of setup) histories (front ++ now ∷ [])) walked.waits
-      (λ may. stand_more (setup_of setup) histories front now may
-      (note_stands (setup_of setup) n histories front now.meaning now.entry is answers)) has.waits_none;
+  waits_none = note_none (MayStand (setup_of setup) histories prefix)
+      (MayStand (setup_of setup) histories (prefix ++ now ∷ [])) walked.waits
+      (λ may. stand_more (setup_of setup) histories prefix now may
+      (note_stands (setup_of setup) n histories prefix now.meaning now.entry is answers)) has.waits_none;
 }
 
 -- nothing was walked yet
@@ -242,9 +242,9 @@ pub known_below : (slots : ℕ) (meaning : Meaning) (at : ℕ) → slot_in meani
     → at < slots
 known_below slots meaning at is known = subst (λ found. IfSome found (λ slot. slot < slots)) is known
 
-pub front_more : (lines : List ToldLine) (i : ℕ) (told : ToldLine) → i < length lines → told ≡ get_or lines i told
+pub prefix_more : (lines : List ToldLine) (i : ℕ) (told : ToldLine) → i < length lines → told ≡ get_or lines i told
     → lines_of (take i lines) ++ line_told told ∷ [] ≡ lines_of (take (i + 1) lines)
-front_more lines i told within is = mapped_more line_told [] lines i told within is
+prefix_more lines i told within is = mapped_more line_told [] lines i told within is
 
 answered_at : (n : ℕ) (lines : List LineTold) (i : ℕ) (d : LineTold) → AreAnswered n lines → i < length lines
     → Answers (n + i) (get_or lines i d).meaning (get_or lines i d).entry
@@ -279,8 +279,8 @@ stands_at subscribers histories at one stand below is =
     (ap commands_met is ∙ there.commands, ap (λ (s : SubscriberState). s.packets) is ∙ there.packets)
 
 -- so many lines
-pub length-front : (lines : List ToldLine) (i : ℕ) → i ≤ length lines → length (lines_of (take i lines)) ≡ i
-length-front lines i within = length-map (take i lines) line_told ∙ length-take-le i lines within
+pub length-prefix : (lines : List ToldLine) (i : ℕ) → i ≤ length lines → length (lines_of (take i lines)) ≡ i
+length-prefix lines i within = length-map (take i lines) line_told ∙ length-take-le i lines within
 
 pub fewer_before : (subscribers : List SubscriberState) (more some : ℕ) → FewBefore subscribers more → some ≤ more
     → FewBefore subscribers some
@@ -290,12 +290,12 @@ fewer_before subscribers more some few low = record {
 }
 
 -- a line of a slot, walked in two steps
-pub walked_on : (result : Result Unit AllocError) (setup : Given) (histories : Histories) (front : List LineTold)
+pub walked_on : (result : Result Unit AllocError) (setup : Given) (histories : Histories) (prefix : List LineTold)
     (now : LineTold) (old mid new : Walked) (n at commands packets : ℕ) (own : Own) (load : AcceptedLoad)
     → Answers n now.meaning now.entry → slot_in now.meaning ≡ Some at
-    → commands ≡ length (commands_of (histories at)) + command_count at front
-    → packets ≡ length (packets_of (histories at)) + length (packets_accepted at front)
-    → SlotWaits own at front → AllWait load front
+    → commands ≡ length (commands_of (histories at)) + command_count at prefix
+    → packets ≡ length (packets_of (histories at)) + length (packets_accepted at prefix)
+    → SlotWaits own at prefix → AllWait load prefix
     → (old.numbers ≢ None → mid.numbers ≡ old.numbers)
     → (old.numbers ≡ None → mid.numbers
     ≡ option_map (λ due. at_line now.entry (decimal due)) (number_missed commands packets now.entry))
@@ -304,12 +304,12 @@ pub walked_on : (result : Result Unit AllocError) (setup : Given) (histories : H
     → (mid.waits ≢ None → OnOk result (new.waits ≡ mid.waits))
     → (mid.waits ≡ None → OnOk result (new.waits ≡ (if may_stand setup own load commands now.entry then None
     else Some (at_line now.entry (waits_due setup commands now.entry)))))
-    → HasWalked setup histories front old → OnOk result (HasWalked setup histories (front ++ now ∷ []) new)
-walked_on (Err e) setup histories front now old mid new n at commands packets own load answers is commands_are packets_are
+    → HasWalked setup histories prefix old → OnOk result (HasWalked setup histories (prefix ++ now ∷ []) new)
+walked_on (Err e) setup histories prefix now old mid new n at commands packets own load answers is commands_are packets_are
     waits all kept numbers same_waits same_numbers kept_waits found_waits walked = tt
-walked_on (Ok done) setup histories front now old mid new n at commands packets own load answers is commands_are
+walked_on (Ok done) setup histories prefix now old mid new n at commands packets own load answers is commands_are
     packets_are waits all kept numbers same_waits same_numbers kept_waits found_waits walked =
-    walked_line setup histories front now old new n at commands packets own load answers is commands_are packets_are waits
+    walked_line setup histories prefix now old new n at commands packets own load answers is commands_are packets_are waits
     all (λ some. same_numbers ∙ kept some) (λ none. same_numbers ∙ numbers none)
     (λ some. kept_waits (λ none. some (sym same_waits ∙ none)) ∙ same_waits)
     (λ none. found_waits (same_waits ∙ none)) walked

@@ -55,9 +55,6 @@ placed_from made place now (first ∷ later) =
 abbrev pub placed_in : List (List Meaning) → ℕ → List Entry → List Placed
 placed_in made epoch entries = filter (λ (p : Placed). p.epoch == epoch) (placed_from made 0 0 entries)
 
-abbrev pub belonging : List (List Meaning) → ℕ → List Entry → List Entry
-belonging made epoch entries = map (λ (p : Placed). p.entry) (placed_in made epoch entries)
-
 -- these were read: their entries, each with its place
 pub record AreThose (stood : List Stood) (placed : List Placed) : Type 0 where
   pub entries : map (λ (s : Stood). s.entry) stood ≡ map (λ (p : Placed). p.entry) placed

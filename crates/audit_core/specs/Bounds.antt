@@ -36,14 +36,14 @@ LiesBetween slot start before now later =
 
 -- The first packet of the slot that doesn't lie so.
 pub record FirstCount (slot start : ℕ) (lines : List LineTold) (told : Break) : Type 0 where
-  pub front : List LineTold
+  pub prefix : List LineTold
   pub now : LineTold
   pub later : List LineTold
-  pub parts : lines ≡ front ++ now ∷ later
-  pub holds : EachUpTo (LiesBetween slot start) [] front (now ∷ later)
-  pub broken : ¬ LiesBetween slot start front now later
+  pub parts : lines ≡ prefix ++ now ∷ later
+  pub holds : EachUpTo (LiesBetween slot start) [] prefix (now ∷ later)
+  pub broken : ¬ LiesBetween slot start prefix now later
   pub is : told ≡ at_line now.entry
-      (decimal (least slot start front) ++ (codes " to " ++ decimal (most slot start front later)))
+      (decimal (least slot start prefix) ++ (codes " to " ++ decimal (most slot start prefix later)))
 
 -- in the lowest slot of an epoch
 pub record IsCountBreak (before : Histories) (lines : List LineTold) (told : Break) : Type 0 where

@@ -25,10 +25,10 @@ abbrev pub AreOfSlots : {X : Type 0} → (X → ℕ) → ℕ → List X → Type
 AreOfSlots whose slots items = All (λ item. whose item < slots) items
 
 pub record IsFirstBeyond {X : Type 0} (whose : X → ℕ) (slots : ℕ) (told : List X) (item : X) : Type 0 where
-  pub front : List X
+  pub prefix : List X
   pub later : List X
-  pub parts : told ≡ front ++ item ∷ later
-  pub known : AreOfSlots whose slots front
+  pub parts : told ≡ prefix ++ item ∷ later
+  pub known : AreOfSlots whose slots prefix
   pub beyond : slots ≤ whose item
 
 -- The first item of a slot that there isn't.
@@ -67,12 +67,12 @@ pub record NoEpoch {X : Type 0} (as_entry : X → Entry) (told : ℕ → List X)
 -- Or the first epoch in which a slot has something else.
 pub record EpochDiffers {X : Type 0} (whose : X → ℕ) (as_entry : X → Entry) (slots : ℕ) (told : ℕ → List X)
     (made : EpochReport → List X) (epochs : List EpochReport) (found : Break) : Type 0 where
-  pub front : List EpochReport
+  pub prefix : List EpochReport
   pub now : EpochReport
   pub later : List EpochReport
-  pub parts : epochs ≡ front ++ now ∷ later
-  pub holds : AgreeUpTo whose told made 0 front
-  pub first : ItemBreak whose as_entry slots (told (length front)) (made now) found
+  pub parts : epochs ≡ prefix ++ now ∷ later
+  pub holds : AgreeUpTo whose told made 0 prefix
+  pub first : ItemBreak whose as_entry slots (told (length prefix)) (made now) found
 
 abbrev pub EpochsBreak : {X : Type 0} → (X → ℕ) → (X → Entry) → ℕ → (ℕ → List X) → (EpochReport → List X)
     → List EpochReport → Break → Type 0
@@ -87,38 +87,38 @@ same_life (charge.R slot row) other = false
 
 -- open counters that no entry tells, and those that are told of their life
 pub record OpenMissing (told made : List ChargeEntry) (found : Break) : Type 0 where
-  pub front : List ChargeEntry
+  pub prefix : List ChargeEntry
   pub open_ : ChargeEntry
   pub later : List ChargeEntry
-  pub parts : made ≡ front ++ open_ ∷ later
-  pub holds : All (Contains told) front
+  pub parts : made ≡ prefix ++ open_ ∷ later
+  pub holds : All (Contains told) prefix
   pub missing : ¬ Contains told open_
   pub is : found ≡ tells (option_map entry.Charge (find (same_life open_) told)) (Some (entry.Charge open_))
 
 -- open counters that are told again, behind these, or are of no bearer
 abbrev pub IsTooMany : List ChargeEntry → List ChargeEntry → ChargeEntry → Type 0
-IsTooMany made front open_ = Contains front open_ ⊎ ¬ Contains made open_
+IsTooMany made prefix open_ = Contains prefix open_ ⊎ ¬ Contains made open_
 
 -- so it is with the one behind so many
 pub record IsTooManyAt (made told : List ChargeEntry) (at : ℕ) : Type 0 where
-  pub front : List ChargeEntry
+  pub prefix : List ChargeEntry
   pub open_ : ChargeEntry
   pub later : List ChargeEntry
-  pub parts : told ≡ front ++ open_ ∷ later
-  pub behind : length front ≡ at
-  pub too_many : IsTooMany made front open_
+  pub parts : told ≡ prefix ++ open_ ∷ later
+  pub behind : length prefix ≡ at
+  pub too_many : IsTooMany made prefix open_
 
 -- none of them are · these are, and none before them
 abbrev pub NoneTooMany : List ChargeEntry → List ChargeEntry → Type 0
-NoneTooMany made told = (front later : List ChargeEntry) (open_ : ChargeEntry) → told ≡ front ++ open_ ∷ later
-    → ¬ IsTooMany made front open_
+NoneTooMany made told = (prefix later : List ChargeEntry) (open_ : ChargeEntry) → told ≡ prefix ++ open_ ∷ later
+    → ¬ IsTooMany made prefix open_
 
 pub record IsFirstTooMany (made told : List ChargeEntry) (open_ : ChargeEntry) : Type 0 where
-  pub front : List ChargeEntry
+  pub prefix : List ChargeEntry
   pub later : List ChargeEntry
-  pub parts : told ≡ front ++ open_ ∷ later
-  pub before : NoneTooMany made front
-  pub too_many : IsTooMany made front open_
+  pub parts : told ≡ prefix ++ open_ ∷ later
+  pub before : NoneTooMany made prefix
+  pub too_many : IsTooMany made prefix open_
 
 -- the first ones that are, if any
 abbrev pub Surplus : List ChargeEntry → List ChargeEntry → Option ChargeEntry → Type 0

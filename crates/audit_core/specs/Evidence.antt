@@ -25,7 +25,7 @@ use Rattle.audit_core.specs.TraceTaken as trace
 use Rattle.audit_core.specs.declared.evidence.Evidence.{Evidence}
 use Rattle.pc_outside.specs.declared.input_stop.InputStop.{InputStop}
 use Rattle.audit_core.specs.declared.judge.Judge.{Judge}
-use Rattle.audit_core.specs.declared.kept.KeptMeaning.{KeptMeaning}
+use Rattle.slot_execution.specs.declared.kept.KeptMeaning.{KeptMeaning}
 use Rattle.audit_core.specs.declared.report.Report.{Report}
 use Rattle.audit_core.specs.declared.report.Run.{Run}
 use Rattle.audit_core.specs.declared.sentence.Sentence.TheVariants as of
@@ -94,9 +94,9 @@ pub record RunsNext (own : Case) (at : Epoch) (octets : List ℕ) (lines : List 
   pub means : meanings_in octets lines ≡ at.now
   pub placed : ArePlaced octets lines
   pub held : IsHeld own.made own.entries report
-  pub runs_are : runs ≡ under (length at.front) report.runs.items
+  pub runs_are : runs ≡ under (length at.prefix) report.runs.items
   pub known : AreKnown own.slots (at.now ∷ [])
   pub few : length (all_lines own.made) < 2 ^ 40
-  pub judged : HasJudged own at.front (at.now ∷ at.left) at.told (at.here ∷ at.later) judge
+  pub judged : HasJudged own at.prefix (at.now ∷ at.left) at.told (at.here ∷ at.later) judge
   pub stands : StandsBehind own at.told (at.now ∷ at.left) subscribers judge
   pub goes_on : rank_of of.Answers < asked_of judge.broken

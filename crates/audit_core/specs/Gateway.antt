@@ -40,14 +40,14 @@ verdict_due (line.F refused) verdict = None
 -- Of the lines of a slot: those before this one tell the first of what was made, and it doesn't tell the next.
 pub record FirstSaid {X : Type 0} (tell : LineTold → Option X) (due : LineEntry → Option X → Option Entry)
     (made : List X) (lines : List LineTold) (told : Break) : Type 0 where
-  pub front : List LineTold
+  pub prefix : List LineTold
   pub now : LineTold
   pub later : List LineTold
   pub said : X
   pub left : List X
-  pub parts : lines ≡ front ++ now ∷ later
+  pub parts : lines ≡ prefix ++ now ∷ later
   pub says : tell now ≡ Some said
-  pub holds : filter_map tell front ++ left ≡ made
+  pub holds : filter_map tell prefix ++ left ≡ made
   pub broken : first_of left ≢ Some said
   pub is : told ≡ tells (Some (entry.Line now.entry)) (due now.entry (first_of left))
 

@@ -1,6 +1,5 @@
 -- Lines and epochs, as the program holds them.
 use Rattle.std.specs.Prelude.{ℕ, ◌+◌, ◌<◌, All, IfSome, List, [], ◌∷◌, length, map}
-use Rattle.std.specs.Global.{Vec}
 use Rattle.demux.specs.Meant.{meaning_of}
 use Rattle.demux.specs.Trace.{Meaning}
 use Rattle.demux.specs.declared.meant.Meant.{Meant}
@@ -11,9 +10,6 @@ use Rattle.audit_core.specs.OfSlot.{AreAnswered}
 -- what lines mean, and what those of each epoch do
 abbrev pub meant_of : List Meant → List Meaning
 meant_of lines = map meaning_of lines
-
-abbrev pub epochs_meant : List (Vec Meant) → List (List Meaning)
-epochs_meant epochs = map (λ (epoch : Vec Meant). meant_of epoch.items) epochs
 
 -- a line is about a slot below so many, or about none
 abbrev pub IsKnown : ℕ → Meaning → Type 0

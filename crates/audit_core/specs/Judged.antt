@@ -37,7 +37,7 @@ use Rattle.audit_core.specs.Telling.{at_line, dash}
 use Rattle.audit_core.specs.Walking.{HasWalked}
 use Rattle.audit_core.specs.Why.{EpochBreak, IsBreak, NumberBreak, OrderBreak, WaitBreak}
 use Rattle.audit_core.specs.declared.judge.Judge.{Judge}
-use Rattle.audit_core.specs.declared.kept.KeptMeaning.{KeptMeaning}
+use Rattle.slot_execution.specs.declared.kept.KeptMeaning.{KeptMeaning}
 use Rattle.audit_core.specs.declared.report.Report.{Report as Heard}
 use Rattle.audit_core.specs.declared.report.Stood.{Stood}
 use Rattle.audit_core.specs.declared.sentence.Refutation.{Refutation}
@@ -68,21 +68,21 @@ due_of own told = flat_map epoch_entries (led_to own told)
 
 -- What is asked of the first epochs: of their lines the first sentence, and each other one.
 abbrev pub HoldsOf : Case → List (List Meaning) → List (List LineTold) → Asked → Type 0
-HoldsOf own front told of.Entries = Unit {0}
-HoldsOf own front told of.Answers =
-    AnswersAll 1 (all_lines front) (in_line_order (length (all_lines front)) (line_entries own.entries))
-HoldsOf own front told of.Outside =
+HoldsOf own prefix told of.Entries = Unit {0}
+HoldsOf own prefix told of.Answers =
+    AnswersAll 1 (all_lines prefix) (in_line_order (length (all_lines prefix)) (line_entries own.entries))
+HoldsOf own prefix told of.Outside =
     find (is_outside (length (all_lines own.made))) (line_entries own.entries) ≡ None
-HoldsOf own front told of.Numbers = EachEpoch AreNumbered no_events told
-HoldsOf own front told of.Counts = EachEpoch CountsAreLawful no_events told
-HoldsOf own front told of.Gateway = EachEpoch AreOfTheGateway no_events told
-HoldsOf own front told of.Effects = AgreeUpTo slot_effected (λ epoch. effects_told own.made epoch own.entries)
+HoldsOf own prefix told of.Numbers = EachEpoch AreNumbered no_events told
+HoldsOf own prefix told of.Counts = EachEpoch CountsAreLawful no_events told
+HoldsOf own prefix told of.Gateway = EachEpoch AreOfTheGateway no_events told
+HoldsOf own prefix told of.Effects = AgreeUpTo slot_effected (λ epoch. effects_told own.made epoch own.entries)
     (λ (now : EpochReport). now.effects) 0 (led_to own told)
-HoldsOf own front told of.Rows = AgreeUpTo slot_charged (λ epoch. rows_told own.made epoch own.entries)
+HoldsOf own prefix told of.Rows = AgreeUpTo slot_charged (λ epoch. rows_told own.made epoch own.entries)
     (λ (now : EpochReport). now.rows) 0 (led_to own told)
-HoldsOf own front told of.Opens = Unit {0}
-HoldsOf own front told of.Waits = EachEpoch (WaitsAreLawful own.setup) no_events told
-HoldsOf own front told of.Order = (later : List Entry) × (own.entries ≡ due_of own told ++ later)
+HoldsOf own prefix told of.Opens = Unit {0}
+HoldsOf own prefix told of.Waits = EachEpoch (WaitsAreLawful own.setup) no_events told
+HoldsOf own prefix told of.Order = (later : List Entry) × (own.entries ≡ due_of own told ++ later)
 
 -- what is asked of all epochs, and of what stands behind them
 abbrev pub HoldsWhole : Case → Asked → Type 0
@@ -148,14 +148,14 @@ pub record Partly (own : Case) (Old New : Asked → Type 0) (done : ℕ) (broken
 
 -- The first epochs were judged, and these are left: each sentence that goes before what is kept holds of them, and what
 -- is kept is the first break of its sentence.
-pub record HasJudged (own : Case) (front left : List (List Meaning)) (told later : List (List LineTold))
+pub record HasJudged (own : Case) (prefix left : List (List Meaning)) (told later : List (List LineTold))
     (judge : Judge) : Type 0 where
-  pub parts : own.made ≡ front ++ left
+  pub parts : own.made ≡ prefix ++ left
   pub told_parts : told_of own ≡ told ++ later
-  pub as_many : length told ≡ length front
-  pub lines : judge.lines ≡ length (all_lines front)
+  pub as_many : length told ≡ length prefix
+  pub lines : judge.lines ≡ length (all_lines prefix)
   pub counted : rank_of of.Order < asked_of judge.broken → judge.entries ≡ length (due_of own told)
-  pub holds : (s : Asked) → rank_of s < asked_of judge.broken → HoldsOf own front told s
+  pub holds : (s : Asked) → rank_of s < asked_of judge.broken → HoldsOf own prefix told s
   pub kept : IsBroken own judge.broken
 
 -- no packet is earlier than this moment, nor than the one before it
@@ -181,7 +181,7 @@ StandsBehind own told left subscribers judge = rank_of of.Numbers < asked_of jud
 
 -- an epoch among all: what its lines mean and which entries they have, between the epochs before it and behind it
 pub record Epoch : Type 0 where
-  pub front : List (List Meaning)
+  pub prefix : List (List Meaning)
   pub now : List Meaning
   pub left : List (List Meaning)
   pub told : List (List LineTold)
@@ -194,7 +194,7 @@ pub record IsNext (own : Case) (at : Epoch) (octets : List ℕ) (lines : List Ke
   pub means : meanings_in octets lines ≡ at.now
   pub placed : ArePlaced octets lines
   pub held : IsHeld own.made own.entries report
-  pub those : AreThose entries (placed_in own.made (length at.front) own.entries)
+  pub those : AreThose entries (placed_in own.made (length at.prefix) own.entries)
   pub known : AreKnown own.slots (at.now ∷ [])
   pub few : length (all_lines own.made) < 2 ^ 40
 
@@ -203,16 +203,16 @@ pub record ComesNext (own : Case) (at : Epoch) (octets : List ℕ) (lines : List
     (entries : List Stood) (subscribers : List SubscriberState) (judge : Judge) : Type 0 where
   pub setup : setup_of judge.setup ≡ own.setup
   pub next : IsNext own at octets lines report entries
-  pub judged : HasJudged own at.front (at.now ∷ at.left) at.told (at.here ∷ at.later) judge
+  pub judged : HasJudged own at.prefix (at.now ∷ at.left) at.told (at.here ∷ at.later) judge
   pub stands : StandsBehind own at.told (at.now ∷ at.left) subscribers judge
   pub goes_on : rank_of of.Answers < asked_of judge.broken
 
 -- an epoch of all, and the entries that belong to it
 pub record IsEpochOf (own : Case) (at : Epoch) (entries : List Stood) : Type 0 where
-  pub parts : own.made ≡ at.front ++ at.now ∷ at.left
+  pub parts : own.made ≡ at.prefix ++ at.now ∷ at.left
   pub told_parts : told_of own ≡ at.told ++ at.here ∷ at.later
-  pub as_many : length at.told ≡ length at.front
-  pub those : AreThose entries (placed_in own.made (length at.front) own.entries)
+  pub as_many : length at.told ≡ length at.prefix
+  pub those : AreThose entries (placed_in own.made (length at.prefix) own.entries)
 
 -- each line of it has its entry
 pub record IsTold (own : Case) (at : Epoch) (lines : List ToldLine) (report : Heard) (entries : List Stood) :
@@ -220,20 +220,20 @@ pub record IsTold (own : Case) (at : Epoch) (lines : List ToldLine) (report : He
   pub epoch : IsEpochOf own at entries
   pub is : lines_of lines ≡ at.here
   pub means : map (λ (told : LineTold). told.meaning) at.here ≡ at.now
-  pub answered : AreAnswered (length (all_lines at.front) + 1) at.here
+  pub answered : AreAnswered (length (all_lines at.prefix) + 1) at.here
   pub stand : All StandsTold lines
   pub held : IsHeld own.made own.entries report
   pub known : AreKnown own.slots (at.now ∷ [])
   pub few : length (all_lines own.made) < 2 ^ 40
   pub its : map (λ (told : LineTold). told.entry) at.here
-      ≡ in_range (length (all_lines at.front) + 1) (length at.now) (line_entries own.entries)
+      ≡ in_range (length (all_lines at.prefix) + 1) (length at.now) (line_entries own.entries)
 
 -- what holds before it, and with it
 abbrev pub Before : Case → Epoch → Asked → Type 0
-Before own at s = HoldsOf own at.front at.told s
+Before own at s = HoldsOf own at.prefix at.told s
 
 abbrev pub With : Case → Epoch → Asked → Type 0
-With own at s = HoldsOf own (at.front ++ at.now ∷ []) (at.told ++ at.here ∷ []) s
+With own at s = HoldsOf own (at.prefix ++ at.now ∷ []) (at.told ++ at.here ∷ []) s
 
 -- the events before it
 abbrev pub histories_at : Epoch → Histories
@@ -257,7 +257,7 @@ pub record IsToldNext (own : Case) (at : Epoch) (lines : List ToldLine) (report 
     (subscribers : List SubscriberState) (judge : Judge) : Type 0 where
   pub setup : setup_of judge.setup ≡ own.setup
   pub told : IsTold own at lines report entries
-  pub judged : HasJudged own at.front (at.now ∷ at.left) at.told (at.here ∷ at.later) judge
+  pub judged : HasJudged own at.prefix (at.now ∷ at.left) at.told (at.here ∷ at.later) judge
   pub stands : StandsBehind own at.told (at.now ∷ at.left) subscribers judge
   pub goes_on : rank_of of.Answers < asked_of judge.broken
 

@@ -1,48 +1,18 @@
 -- What lines mean that are kept until their epoch is judged.
-use Rattle.std.specs.Prelude.{◌≡◌, ℕ, ◌≤◌, List, ◌++◌, All, length, map, slice_range}
-use Rattle.ipv4_packet.specs.Packet.{IsPacket}
+use Rattle.std.specs.Prelude.{◌≡◌, ℕ, List, ◌++◌, All, map}
 use Rattle.demux.specs.Meant.{meaning_of}
-use Rattle.demux.specs.Trace.{Meaning, command, packet, move, note}
+use Rattle.demux.specs.Trace.{Meaning}
 use Rattle.demux.specs.declared.meant.Meant.{Meant}
-use Rattle.demux.specs.declared.packet.LentPacket.{LentPacket}
-use Rattle.audit_core.specs.declared.kept.KeptMeaning.{KeptMeaning}
-use Rattle.audit_core.specs.declared.kept.KeptMeaning.TheVariants as kept
-use Rattle.audit_core.specs.declared.kept.StoredPacket.{StoredPacket}
-
--- a packet among the octets of all, and what a line means with them
-abbrev pub packet_in : List ℕ → StoredPacket → LentPacket
-packet_in octets p = record { moment = p.moment; way = p.way; ip = slice_range octets p.from p.to }
-
-abbrev pub meaning_in : List ℕ → KeptMeaning → Meaning
-meaning_in octets (kept.Command slot c) = command slot c.value
-meaning_in octets (kept.Packet slot p) = packet slot (packet_in octets p)
-meaning_in octets (kept.Move slot slice text) = move slot slice text
-meaning_in octets (kept.Note text) = note text
+use Rattle.slot_execution.specs.Kept.{IsPlaced, meaning_in}
+use Rattle.slot_execution.specs.declared.kept.KeptMeaning.{KeptMeaning}
 
 -- what lines mean
 abbrev pub meanings_in : List ℕ → List KeptMeaning → List Meaning
 meanings_in octets lines = map (meaning_in octets) lines
 
--- a packet stands among them
-pub record IsPlacedPacket (octets : List ℕ) (p : StoredPacket) : Type 0 where
-  pub ordered : p.from ≤ p.to
-  pub within : p.to ≤ length octets
-  pub whole : IsPacket (slice_range octets p.from p.to)
-
-abbrev pub IsPlaced : List ℕ → KeptMeaning → Type 0
-IsPlaced octets (kept.Command slot c) = Unit {0}
-IsPlaced octets (kept.Packet slot p) = IsPlacedPacket octets p
-IsPlaced octets (kept.Move slot slice text) = Unit {0}
-IsPlaced octets (kept.Note text) = Unit {0}
-
+-- their packets stand among the octets
 abbrev pub ArePlaced : List ℕ → List KeptMeaning → Type 0
 ArePlaced octets lines = All (IsPlaced octets) lines
-
--- a packet is put behind the octets before
-pub record Places (old new : List ℕ) (p : LentPacket) (placed : StoredPacket) : Type 0 where
-  pub grown : new ≡ old ++ p.ip
-  pub is : packet_in new placed ≡ p
-  pub stands : IsPlacedPacket new placed
 
 -- what a line means is kept, with these octets behind those before
 pub record Keeps (old new : List ℕ) (now : Meant) (it : KeptMeaning) : Type 0 where

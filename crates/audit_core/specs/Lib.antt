@@ -1,4 +1,5 @@
 pub mod Agreeing
+pub mod Along
 pub mod AnswerPlaces
 pub mod Answering
 pub mod Answers
@@ -9,7 +10,8 @@ pub mod Dues
 pub mod Entries
 pub mod Evidence
 pub mod Findings
-pub mod Fronts
+pub mod FirstLines
+pub mod Following
 pub mod Gateway
 pub mod Heard
 pub mod Holding
@@ -21,6 +23,7 @@ pub mod Meant
 pub mod OfSlot
 pub mod Packed
 pub mod Passing
+pub mod Pieces
 pub mod Places
 pub mod Played
 pub mod Progress
@@ -38,3 +41,4 @@ pub mod TraceTaken
 pub mod Walking
 pub mod Why
 pub mod Opens
+pub mod WholePieces

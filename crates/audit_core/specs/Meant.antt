@@ -5,7 +5,7 @@ use Rattle.demux.specs.declared.packet.LentPacket.{LentPacket}
 use Rattle.demux.specs.Trace.{Meaning, command, packet, move, note}
 use Rattle.lawful_run.specs.Accepted.{is_refused}
 use Rattle.lawful_run.specs.LinesTold.{LineTold}
-use Rattle.audit_core.specs.Kept.{IsPlaced, meaning_in}
+use Rattle.slot_execution.specs.Kept.{IsPlaced, meaning_in}
 use Rattle.audit_core.specs.declared.told_line.ToldLine.{ToldLine}
 
 -- a line of the trace with its entry, as the program holds them

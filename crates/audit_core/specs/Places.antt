@@ -6,19 +6,19 @@ use Rattle.lawful_run.specs.Run.{no_events}
 use Rattle.audit_core.specs.Sentences.{EachEpoch, behind_epochs}
 
 -- The first epoch: something holds of those before it, each behind the events before it, and not of this one.
-pub record FirstEpoch (P : Histories → List LineTold → Type 0) (epochs front : List (List LineTold))
+pub record FirstEpoch (P : Histories → List LineTold → Type 0) (epochs prefix : List (List LineTold))
     (lines : List LineTold) : Type 0 where
   pub later : List (List LineTold)
-  pub parts : epochs ≡ front ++ lines ∷ later
-  pub holds : EachEpoch P no_events front
-  pub broken : ¬ P (behind_epochs no_events front) lines
+  pub parts : epochs ≡ prefix ++ lines ∷ later
+  pub holds : EachEpoch P no_events prefix
+  pub broken : ¬ P (behind_epochs no_events prefix) lines
 
 -- The first line: something holds of the lines before it, and not with it.
-pub record FirstLine (P : List LineTold → Type 0) (lines front : List LineTold) (now : LineTold) : Type 0 where
+pub record FirstLine (P : List LineTold → Type 0) (lines prefix : List LineTold) (now : LineTold) : Type 0 where
   pub later : List LineTold
-  pub parts : lines ≡ front ++ now ∷ later
-  pub holds : P front
-  pub broken : ¬ P (front ++ now ∷ [])
+  pub parts : lines ≡ prefix ++ now ∷ later
+  pub holds : P prefix
+  pub broken : ¬ P (prefix ++ now ∷ [])
 
 -- the first item, where there is one
 abbrev pub first_of : {X : Type 0} → List X → Option X

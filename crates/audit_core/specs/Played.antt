@@ -1,5 +1,6 @@
 -- What the lines of an epoch lead to, slot by slot.
 use Rattle.std.specs.Prelude.{◌≡◌, ℕ, ◌<◌, ◌≤◌, All, IfSome, IfNone, Option, Some, None, List, [], ◌∷◌, map}
+use Rattle.std.specs.Prelude.{get_or, length}
 use Rattle.std.specs.Global.{Vec}
 use Rattle.std.specs.Option.{option_map}
 use Rattle.pc_base.specs.declared.packet.Verdict.{Verdict}
@@ -20,6 +21,7 @@ use Rattle.slot_execution.specs.Replaying.{IsLedTo, effects_told, rows_told}
 use Rattle.slot_execution.specs.declared.replayed.Replayed.{Replayed}
 use Rattle.slot_execution.specs.declared.replayed.NumberedReply.{NumberedReply}
 use Rattle.slot_execution.specs.declared.replayed.NumberedVerdict.{NumberedVerdict}
+use Rattle.subscriber.specs.Standing.{SubscriberState}
 use Rattle.audit_core.specs.Bounds.{IsCountBreak}
 use Rattle.audit_core.specs.Gateway.{AnswersOf, IsGatewayBreak}
 use Rattle.audit_core.specs.Meant.{StandsTold, lines_of, packet_taken, share}
@@ -114,3 +116,8 @@ pub record HasPlayed (slots : ℕ) (histories : Histories) (all : List LineTold)
       ≡ by_slot slots (λ slot. made_of.effects slot (histories slot) (events_in (histories slot) all slot))
   pub rows : rows_told played.rows.items
       ≡ by_slot slots (λ slot. made_of.rows slot (histories slot) (events_in (histories slot) all slot))
+
+-- each subscriber is bound for the slice that it was bound for
+abbrev pub AreBoundAs : List SubscriberState → List SubscriberState → Type 0
+AreBoundAs old new = (slot : ℕ) (none : SubscriberState) → slot < length old
+    → (get_or new slot none).destination ≡ (get_or old slot none).destination

@@ -13,7 +13,7 @@ use Rattle.lawful_run.specs.Refusals.{move_count, packet_count, slot_count, slot
 use Rattle.lawful_run.specs.Merging.{Histories}
 use Rattle.lawful_run.specs.Parking.{parked_told}
 use Rattle.subscriber.specs.Standing.{SubscriberState, commands_met}
-use Rattle.audit_core.specs.Fronts.{MayStand, count_due}
+use Rattle.audit_core.specs.FirstLines.{MayStand, count_due}
 use Rattle.audit_core.specs.Sentences.{AreNumbered}
 use Rattle.audit_core.specs.Setups.{setup_of}
 use Rattle.audit_core.specs.Telling.{dash}

@@ -13,33 +13,33 @@ use Rattle.audit_core.specs.Sentences.{WaitsAreLawful, behind_epochs, made_repor
 use Rattle.audit_core.specs.AnswerPlaces.{IsUnanswered}
 use Rattle.audit_core.specs.Bounds.{IsCountBreak}
 use Rattle.audit_core.specs.Charges.{ChargeBreak}
-use Rattle.audit_core.specs.Fronts.{MayStand, due_of, number_due}
+use Rattle.audit_core.specs.FirstLines.{MayStand, due_of, number_due}
 use Rattle.audit_core.specs.Gateway.{IsGatewayBreak}
 use Rattle.audit_core.specs.Places.{FirstDifference, FirstEpoch, FirstLine}
 use Rattle.audit_core.specs.Telling.{at_line, tells}
 use Rattle.audit_core.specs.declared.telling.Break.{Break}
 
 -- at the entry of the first line up to which something doesn't hold
-pub record FrontBreak (P : List LineTold → Type 0) (due : List LineTold → LineEntry → List ℕ) (lines : List LineTold)
+pub record PrefixBreak (P : List LineTold → Type 0) (due : List LineTold → LineEntry → List ℕ) (lines : List LineTold)
     (told : Break) : Type 0 where
-  pub front : List LineTold
+  pub prefix : List LineTold
   pub now : LineTold
-  pub first : FirstLine P lines front now
-  pub is : told ≡ at_line now.entry (due front now.entry)
+  pub first : FirstLine P lines prefix now
+  pub is : told ≡ at_line now.entry (due prefix now.entry)
 
 -- in the first epoch of which a sentence doesn't hold
 pub record EpochBreak (P : Histories → List LineTold → Type 0) (B : Histories → List LineTold → Break → Type 0)
     (epochs : List (List LineTold)) (told : Break) : Type 0 where
-  pub front : List (List LineTold)
+  pub prefix : List (List LineTold)
   pub lines : List LineTold
-  pub first : FirstEpoch P epochs front lines
-  pub there : B (behind_epochs no_events front) lines told
+  pub first : FirstEpoch P epochs prefix lines
+  pub there : B (behind_epochs no_events prefix) lines told
 
 abbrev pub NumberBreak : Histories → List LineTold → Break → Type 0
-NumberBreak before lines told = FrontBreak (AreNumbered before) (number_due before) lines told
+NumberBreak before lines told = PrefixBreak (AreNumbered before) (number_due before) lines told
 
 abbrev pub WaitBreak : Setup → Histories → List LineTold → Break → Type 0
-WaitBreak setup before lines told = FrontBreak (MayStand setup before) (due_of setup before) lines told
+WaitBreak setup before lines told = PrefixBreak (MayStand setup before) (due_of setup before) lines told
 
 -- the first entry that isn't the one due
 pub record OrderBreak (entries due : List Entry) (told : Break) : Type 0 where

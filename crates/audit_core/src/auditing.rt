@@ -44,7 +44,7 @@ fn hear_lines<S: Source>(
     buf: &mut LineBuf,
     heard: &mut Evidence,
 ) -> Result<InputStop, NoMemory>
-    requires fresh { buf.old ≡ record { line = []; last = false; front = []; room = 2 ^ 40 } }
+    requires fresh { buf.old ≡ record { line = []; last = false; buffered = []; room = 2 ^ 40 } }
     requires nothing { HasHeardOf heard.old [] }
     requires weight { weight_of heard.old ≡ 0 }
 

@@ -1,6 +1,6 @@
 //! The fifth sentence: the first effect, charging record or open counter that differs from what the lines lead to.
 
-ghost use Rattle.std.specs.Prelude.{◌≡◌, ℕ, ◌<◌, ◌↔◌, All, List, drop, find, filter_map, option_map};
+ghost use Rattle.std.specs.Prelude.{◌≡◌, ℕ, ◌<◌, ◌↔◌, All, drop, find, filter_map, option_map};
 ghost use Rattle.std.specs.Prelude.{◌+◌, ◌++◌, ◌∷◌, [], Contains, IfNone, IfOk, IfSome, IsTrue, None, OnOk, Some, map};
 ghost use Rattle.report_lines.specs.declared.entry.ChargeEntry.{ChargeEntry};
 ghost use Rattle.report_lines.specs.declared.entry.Entry.{Entry};

@@ -13,12 +13,12 @@ ghost use Rattle.pc_outside.specs.Texts.{Text};
 
 use crate::NoMemory;
 use crate::judge::Judge;
-use crate::kept::KeptMeaning;
 use crate::report::{Report, Run};
 use crate::sentence::{Refutation, Sentence};
 use crate::setup::Setup;
 use crate::telling::at_report;
 use crate::trace::Trace;
+use slot_execution::KeptMeaning;
 use std::alloc::Global;
 use subscriber::Subscriber;
 use trace_lines::TraceLine;
@@ -181,7 +181,7 @@ fn judge_epoch(
         subscribers.old.items judge.old }
     ensures judged { (own : Case) (at : Epoch)
         → RunsNext own at octets.now lines.now report.now runs.now subscribers.old.items judge.old
-        → OnOk result (HasJudged own (at.front ++ at.now ∷ []) at.left (at.told ++ at.here ∷ []) at.later
+        → OnOk result (HasJudged own (at.prefix ++ at.now ∷ []) at.left (at.told ++ at.here ∷ []) at.later
         judge.new) }
     ensures stands { (own : Case) (at : Epoch)
         → RunsNext own at octets.now lines.now report.now runs.now subscribers.old.items judge.old

@@ -17,7 +17,7 @@ fn hear_lines<S: Source>(
     buf: &mut LineBuf,
     heard: &mut Heard,
 ) -> Result<InputStop, NoMemory>
-    requires fresh { buf.old ≡ record { line = []; last = false; front = []; room = 2 ^ 40 } }
+    requires fresh { buf.old ≡ record { line = []; last = false; buffered = []; room = 2 ^ 40 } }
     requires nothing { HasHeard heard.old [] }
     requires none { vec_len heard.old.lines ≡ 0 }
 

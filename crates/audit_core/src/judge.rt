@@ -22,7 +22,6 @@ use crate::charges::{
     rows_told,
 };
 use crate::due_entries::{EffectDue, effects_due, rows_due};
-use crate::kept::KeptMeaning;
 use crate::matching::{Matched, match_lines};
 use crate::opens::opens_due;
 use crate::order::{epoch_order, last_order};
@@ -34,6 +33,7 @@ use crate::telling::{Break, at_line, dash};
 use crate::told_line::ToldLine;
 use crate::walking::{Walked, walk};
 use report_lines::{ChargeEntry, Entry};
+use slot_execution::KeptMeaning;
 use std::alloc::Global;
 use subscriber::Subscriber;
 
@@ -149,7 +149,7 @@ impl Judge {
 
         ensures judged { (own : Case) (at : Epoch)
             → ComesNext own at octets.now lines.now report.now entries.now subscribers.old.items self.old
-            → OnOk result (HasJudged own (at.front ++ at.now ∷ []) at.left (at.told ++ at.here ∷ []) at.later
+            → OnOk result (HasJudged own (at.prefix ++ at.now ∷ []) at.left (at.told ++ at.here ∷ []) at.later
             self.new) }
         ensures stands { (own : Case) (at : Epoch)
             → ComesNext own at octets.now lines.now report.now entries.now subscribers.old.items self.old
@@ -189,7 +189,7 @@ impl Judge {
             subscribers.old.items self.old }
         ensures judged { (own : Case) (at : Epoch)
             → IsToldNext own at lines.now report.now entries.now subscribers.old.items self.old
-            → OnOk result (HasJudged own (at.front ++ at.now ∷ []) at.left (at.told ++ at.here ∷ []) at.later
+            → OnOk result (HasJudged own (at.prefix ++ at.now ∷ []) at.left (at.told ++ at.here ∷ []) at.later
             self.new) }
         ensures stands { (own : Case) (at : Epoch)
             → IsToldNext own at lines.now report.now entries.now subscribers.old.items self.old

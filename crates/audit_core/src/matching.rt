@@ -5,16 +5,17 @@ ghost use Rattle.report_lines.specs.declared.entry.LineEntry.{LineEntry};
 ghost use Rattle.audit_core.specs.Answering.{answers, is_note, is_refusal};
 ghost use Rattle.audit_core.specs.AnswerPlaces.{asked, missing, note_due};
 ghost use Rattle.audit_core.specs.Entries.{line_entries, line_of};
-ghost use Rattle.audit_core.specs.Kept.{ArePlaced, meaning_in, meanings_in};
+ghost use Rattle.slot_execution.specs.Kept.{meaning_in};
+ghost use Rattle.audit_core.specs.Kept.{ArePlaced, meanings_in};
 ghost use Rattle.audit_core.specs.Matched.{AreFound, IsFound, Matches, entries_stood};
 
 use crate::NoMemory;
-use crate::kept::KeptMeaning;
 use crate::report::{Stood, line_of};
 use crate::telling::{Break, at_line, dash, word};
 use crate::told_line::{ToldLine, slot_meant};
 use pc_base::{Octets, Slot};
 use report_lines::{Entry, LineEntry, Refusal, push_note};
+use slot_execution::KeptMeaning;
 use std::alloc::Global;
 use text_fields::Text;
 

@@ -144,7 +144,7 @@ fn is_entry(own: &Due<'_>, entry: &Entry) -> bool
     }
 }
 
-fn entry_said(alloc: Global, entry: &Entry) -> Result<SaidEntry, NoMemory>
+pub(crate) fn entry_said(alloc: Global, entry: &Entry) -> Result<SaidEntry, NoMemory>
     ensures { IfOk result (λ said. said ≡ said_of entry.now) }
 {
     match entry {
@@ -165,7 +165,11 @@ fn due_said(alloc: Global, due: &Due<'_>) -> Result<SaidEntry, NoMemory>
 }
 
 // What is told of an entry that stands, where it isn't the one that is due.
-fn entry_differs(alloc: Global, entry: &Entry, due: &Due<'_>) -> Result<Option<Break>, NoMemory>
+pub(crate) fn entry_differs(
+    alloc: Global,
+    entry: &Entry,
+    due: &Due<'_>,
+) -> Result<Option<Break>, NoMemory>
     ensures some { IfOk result (λ found. IfSome found (IsOther (Some entry.now) (entry_due due.now))) }
     ensures none { IfOk result (λ found. IfNone found (entry.now ≡ entry_due due.now)) }
 {
@@ -178,7 +182,7 @@ fn entry_differs(alloc: Global, entry: &Entry, due: &Due<'_>) -> Result<Option<B
 }
 
 // What is told where no entry stands, and one is due.
-fn entry_missing(alloc: Global, due: &Due<'_>) -> Result<Break, NoMemory>
+pub(crate) fn entry_missing(alloc: Global, due: &Due<'_>) -> Result<Break, NoMemory>
     ensures { IfOk result (IsOther None (entry_due due.now)) }
 {
     let asked = due_said(alloc, due)?;

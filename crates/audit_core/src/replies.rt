@@ -85,11 +85,11 @@ fn verdict_due(
 }
 
 // The verdict with octets of its own.
-fn owned(alloc: Global, told: &LentVerdict<'_>) -> Result<Verdict, NoMemory>
-    requires { IsShort told.now }
-    ensures { IfOk result (λ verdict. verdict ≡ verdict_of told.now) }
+fn owned(alloc: Global, lent: &LentVerdict<'_>) -> Result<Verdict, NoMemory>
+    requires { IsShort lent.now }
+    ensures { IfOk result (λ verdict. verdict ≡ verdict_of lent.now) }
 {
-    match told {
+    match lent {
         LentVerdict::Up { life, octets } => Ok(Verdict::Up {
             life: *life,
             octets: Octets::of(Vec::from_slice(alloc, octets)?),

@@ -18,7 +18,8 @@ ghost use Rattle.audit_core.specs.Answers.{reply_in, verdict_in};
 ghost use Rattle.audit_core.specs.Holding.{AreKnownTold};
 ghost use Rattle.audit_core.specs.Meant.{StandsTold, command_taken, line_told, lines_of, share, slot_in};
 ghost use Rattle.audit_core.specs.OfSlot.{AreAnswered};
-ghost use Rattle.audit_core.specs.Played.{AnswersBelow, AreLate, AreShares, CountsBelow, HasPlayed, LeadsTo};
+ghost use Rattle.audit_core.specs.Played.{AnswersBelow, AreBoundAs, AreLate, AreShares, CountsBelow, HasPlayed};
+ghost use Rattle.audit_core.specs.Played.{LeadsTo};
 ghost use Rattle.audit_core.specs.Played.{PlaysBelow, StandInEach, keyed_by, latest_of, placed_in};
 
 use crate::NoMemory;
@@ -156,6 +157,7 @@ fn play_lines<'a, 'b>(
         → AreLate latest (lines_of lines.now)
         → OnOk result (IsAtRest slices (count + length lines.now) (latest_of latest (lines_of lines.now)) slot
         subscriber.new) }
+    ensures destination { OnOk result (subscriber.new.destination ≡ subscriber.old.destination) }
 {
     sessions_keep_their_slot();
     let commands = commands_of(alloc, lines)?;
@@ -258,7 +260,7 @@ impl Played {
     fn add(
         &mut self,
         alloc: Global,
-        room: &Bump,
+        arena: &Bump,
         slot: Slot,
         subscriber: &mut Subscriber,
         lines: &[ToldLine<'_>],
@@ -278,6 +280,7 @@ impl Played {
             → AreLate latest (lines_of lines.now)
             → OnOk result (IsAtRest slices (count + length lines.now) (latest_of latest (lines_of lines.now)) slot
             subscriber.new) }
+        ensures destination { OnOk result (subscriber.new.destination ≡ subscriber.old.destination) }
     {
         if lines.is_empty() {
             return Ok(());
@@ -285,7 +288,7 @@ impl Played {
         let start = subscriber.commands();
         let before = self.counts.take();
         let counts = next_counts(alloc, before, start, lines)?;
-        let mut replayed = play_lines(alloc, room, subscriber, lines)?;
+        let mut replayed = play_lines(alloc, arena, subscriber, lines)?;
         let told = self.gateway.take();
         let gateway = next_answers(alloc, told, slot, &mut replayed, lines)?;
         self.counts = counts;
@@ -329,6 +332,7 @@ pub(crate) fn play(
         → AreLate latest (lines_of lines.now)
         → OnOk result (AreAtRest slices (count + length lines.now) (latest_of latest (lines_of lines.now))
         subscribers.new.items) }
+    ensures bound { OnOk result (AreBoundAs subscribers.old.items subscribers.new.items) }
     ensures many { vec_len subscribers.new ≡ vec_len subscribers.old }
 {
     let arena = Bump::new(alloc);

@@ -1,14 +1,14 @@
 //! The lines of an epoch with their entries.
 
 ghost use Rattle.std.specs.Prelude.{◌≡◌, ℕ, List};
-ghost use Rattle.audit_core.specs.Kept.{meaning_in};
+ghost use Rattle.slot_execution.specs.Kept.{meaning_in};
 ghost use Rattle.audit_core.specs.Meant.{slot_in};
 
-use crate::kept::{KeptMeaning, packet_at};
 use control_steps::Command;
 use demux::LentPacket;
 use pc_base::Slot;
 use report_lines::LineEntry;
+use slot_execution::{KeptMeaning, packet_at};
 
 /// What a line means, where the octets of packets stand, and its entry.
 #[derive(Clone, Copy)]

@@ -10,10 +10,11 @@ ghost use Rattle.audit_core.specs.TraceTaken.{HasTakenTrace, IsClosed, TakesLine
 ghost use Rattle.audit_core.specs.declared.setup.BadAt.{BadAt};
 
 use crate::NoMemory;
-use crate::kept::{KeptMeaning, keep};
+use crate::kept::keep;
 use address_book::AddressBook;
 use at_rest::decide_line;
 use pc_base::{Moment, Octets};
+use slot_execution::KeptMeaning;
 use std::alloc::Global;
 use subscriber::Subscriber;
 use trace_lines::{LineBad, TraceLine, ends_epoch, read_line_in};
@@ -157,7 +158,7 @@ impl Trace {
 }
 
 // The note on a bad line.
-fn bad_note(alloc: Global, why: LineBad) -> Result<Octets, NoMemory>
+pub(crate) fn bad_note(alloc: Global, why: LineBad) -> Result<Octets, NoMemory>
     ensures { IfOk result (λ note. note ≡ codes "line" ++ 32 ∷ word_of why) }
 {
     let mut note = Vec::from_slice(alloc, b"line ")?;

@@ -15,12 +15,12 @@ ghost use Rattle.audit_core.specs.Walking.{FewBefore, HasWalked, Walks, load_by,
 ghost use Rattle.audit_core.specs.Walking.{may_stand, number_missed, one_new, one_taken, own_by, waits_due};
 
 use crate::NoMemory;
-use crate::kept::KeptMeaning;
 use crate::setup::Setup;
 use crate::telling::{Break, at_line, dash};
 use crate::told_line::ToldLine;
 use pc_base::Octets;
 use report_lines::LineEntry;
+use slot_execution::KeptMeaning;
 use std::alloc::Global;
 use subscriber::Subscriber;
 

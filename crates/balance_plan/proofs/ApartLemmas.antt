@@ -1,12 +1,11 @@
 -- The written trace without the planned moves.
 use Rattle.std.proofs.Common.{◌≡◌, ℕ, List, [], ◌∷◌, ◌++◌, map, refl, sym, ap, ◌∙◌, append_assoc, append-nil}
-use Rattle.std.specs.List.{filter_map}
 use Rattle.std.specs.Prelude.{fold}
 use Rattle.std.proofs.lemmas.List.Elements.{filter_map-append}
 use Rattle.report_lines.specs.declared.entry.Entry.{Entry}
 use Rattle.trace_lines.specs.Line.{Line}
 use Rattle.balance_plan.specs.Balance.{Balance, balance_of, balanced, nothing, planned_at, with_given, with_line}
-use Rattle.balance_plan.specs.Written.{Written, given, given_in, planned, without_planned}
+use Rattle.balance_plan.specs.Written.{given, given_in, planned, without_planned}
 
 planned_are_none : (moves : List Line) → without_planned (map planned moves) ≡ []
 planned_are_none [] = refl

@@ -1,7 +1,6 @@
 -- What is written of what was heard, and what it comes to.
 use Rattle.std.proofs.Common.{◌≡◌, ℕ, ◌+◌, Bool, true, false, cond, List, [], ◌∷◌, ◌++◌, append-nil, Option, None, Some, is_some, Result, Ok, Err, refl, sym, ap, ◌∙◌, subst}
 use Rattle.std.specs.Prelude.{bytes_eq}
-use Rattle.std.specs.Io.KnownBytes.{Appends}
 use Rattle.std.proofs.KnownBytes.{Appends-nil}
 use Rattle.audit_core.specs.Setups.{input_with}
 use Rattle.audit_core.specs.declared.setup.BadAt.{BadAt}
@@ -81,16 +80,16 @@ written_so ending_of.Written slices most heard start left old new texts text wro
 }
 written_so ending_of.WriteFault slices most heard start left old new texts text wrote hears good inside is reached =
     record {
-      text = wrote.front;
+      text = wrote.prefix;
       written = wrote.appended;
       report = told_map start left (λ octets rest. Reached stopped_at.Ended octets rest texts)
-          (λ octets rest. Reports ending_of.WriteFault slices most octets rest wrote.front)
+          (λ octets rest. Reports ending_of.WriteFault slices most octets rest wrote.prefix)
           (λ octets rest at. (
             at.0,
             record {
               more = wrote.rest;
-              whole = subst (λ ts. IsBalanced slices most ts (wrote.front ++ wrote.rest)) (sym at.1)
-                  (balanced_heard slices most heard texts (wrote.front ++ wrote.rest) hears good inside
+              whole = subst (λ ts. IsBalanced slices most ts (wrote.prefix ++ wrote.rest)) (sym at.1)
+                  (balanced_heard slices most heard texts (wrote.prefix ++ wrote.rest) hears good inside
                   (sym wrote.parts ∙ is));
             },
           )) reached;
@@ -208,12 +207,12 @@ stays_bad number least (text ∷ texts) behind n why is =
 
 bad_more : (texts more : List Text) → HasBadLine texts → HasBadLine (texts ++ more)
 bad_more texts more has =
-    let front = trace_more texts more in
+    let longer = trace_more texts more in
     record {
       number = has.number;
       why = has.why;
-      stop = ap (λ (ts : List Text). (trace_from 1 0 ts).stop) front.1
-          ∙ stays_bad 1 0 (trace_texts texts) front.0 has.number has.why has.stop;
+      stop = ap (λ (ts : List Text). (trace_from 1 0 ts).stop) longer.1
+          ∙ stays_bad 1 0 (trace_texts texts) longer.0 has.number has.why has.stop;
     }
 
 bad_said : (stop : InputStop) (slices most : ℕ) (heard : Heard) (at : BadAt) (start left old : Option (List ℕ))

@@ -1,6 +1,6 @@
 -- The greatest and least of numbers, and the heaviest of loads, by what their loops keep.
-use Rattle.std.proofs.Common.{◌≡◌, ℕ, ◌+◌, ◌*◌, ◌<◌, ◌≤◌, ◌&&◌, ◌||◌, not, Bool, true, false, List, ◌∷◌, Option, Some, None, ◌⊎◌, inl, inr, length, get_or, nat_lt, nat_le, refl, sym, ap, ◌∙◌, subst, arith}
-use Rattle.std.specs.List.{All, IsFirstBest, find, list_all, position_or_len, slice_get}
+use Rattle.std.proofs.Common.{◌≡◌, ℕ, ◌<◌, ◌≤◌, not, true, false, List, ◌∷◌, Some, None, inl, inr, length, get_or, nat_lt, nat_le, ap, ◌∙◌, arith}
+use Rattle.std.specs.List.{IsFirstBest, list_all, position_or_len, slice_get}
 use Rattle.std.proofs.lemmas.Bool.{and_from, and_left, and_parts, and_right, cases_Bool, cond-false, cond-true, eqb-true, le-leb, leb-true, lt-leb, ltb-false, ltb-true, not_from_false, not_from_true, or_from, or_left, or_right}
 use Rattle.std.proofs.lemmas.List.Elements.{All-from_get_or}
 use Rattle.std.proofs.lemmas.List.Folds.{find_at, list_all_at}

@@ -1,12 +1,10 @@
 -- How many packets a report tells, line by line.
-use Rattle.std.proofs.Common.{◌≡◌, ℕ, ◌+◌, ◌<◌, ◌≤◌, ◌==◌, ◌&&◌, Bool, true, false, cond, nat_lt, if◌then◌else◌, zero, suc, List, [], ◌∷◌, ◌++◌, Option, None, Some, ◌⊎◌, inl, inr, length, map, filter, get_or, take, refl, sym, ap, ◌∙◌, subst, arith}
+use Rattle.std.proofs.Common.{◌≡◌, ℕ, ◌+◌, ◌<◌, ◌≤◌, ◌==◌, ◌&&◌, Bool, true, false, cond, nat_lt, zero, suc, List, [], ◌∷◌, inl, inr, length, map, filter, get_or, take, refl, sym, ap, ◌∙◌, arith}
 use Rattle.std.specs.Global.{Vec}
-use Rattle.std.specs.List.{count_by, filter_map, sum_by}
-use Rattle.std.specs.Option.{option_to_list}
-use Rattle.std.proofs.lemmas.Bool.{and_from, and_left, and_parts, and_right, cases_Bool, cases_eq, cases_lt, cond-false, cond-true, eq-eqb, eqb-true, false_from_ne_true, le-ltb, lt-ltb, ltb-true, ne_eqb}
-use Rattle.std.proofs.lemmas.List.{get_or-map, take_more}
-use Rattle.std.proofs.lemmas.List.Elements.{filter_map-append}
-use Rattle.std.proofs.lemmas.List.Sums.{count_by-le-length, sum_by-cons, sum_by_more_le}
+use Rattle.std.specs.List.{count_by, filter_map}
+use Rattle.std.proofs.lemmas.Bool.{and_from, and_left, and_right, cases_eq, cases_lt, eq-eqb, le-ltb, lt-ltb, ne_eqb}
+use Rattle.std.proofs.lemmas.List.{get_or-map}
+use Rattle.std.proofs.lemmas.List.Sums.{sum_by-cons, sum_by_more_le}
 use Rattle.audit_core.specs.Sharing.{shares, under}
 use Rattle.audit_core.specs.declared.sharing.Keyed.{Keyed}
 use Rattle.lawful_run.specs.Telling.{counted}
@@ -14,9 +12,9 @@ use Rattle.report_lines.specs.declared.entry.Entry.{Entry}
 use Rattle.report_lines.specs.declared.entry.Entry.TheVariants as entry
 use Rattle.report_lines.specs.declared.entry.LineEntry.{LineEntry}
 use Rattle.report_lines.specs.declared.entry.LineEntry.TheVariants as of_line
-use Rattle.balance_plan.specs.Packets.{is_between, line_packet, packet_in, packets_between, packets_on, tells_packet}
+use Rattle.balance_plan.specs.Packets.{is_between, packet_in, packets_between, packets_on, tells_packet}
 
--- a count, one item more at the front
+-- a count, one item more at the start
 pub count-cons : {X : Type 0} (p : X → Bool) (x : X) (xs : List X)
     → count_by p (x ∷ xs) ≡ cond (p x) 1 0 + count_by p xs
 count-cons p x xs = sum_by-cons (λ y. cond (p y) 1 0) x xs
@@ -192,7 +190,3 @@ between_none since [] slot = refl
 between_none since (one ∷ entries) slot =
     count-cons (tells_packet (is_between since (since + 1)) slot) one entries
     ∙ (λ i. cond (tells_none since slot one i) 1 0 + between_none since entries slot i)
-
-pub few_between : (since until : ℕ) (entries : List Entry) (slot : ℕ)
-    → packets_between since until entries slot ≤ length entries
-few_between since until entries slot = count_by-le-length (tells_packet (is_between since until) slot) entries

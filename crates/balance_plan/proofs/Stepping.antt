@@ -1,6 +1,6 @@
 -- A step, by what is kept of loads.
-use Rattle.std.proofs.Common.{◌≡◌, ℕ, ◌+◌, ◌-◌, ◌*◌, ◌<◌, ◌≤◌, ◌^◌, zero, suc, true, Option, Some, None, List, [], ◌∷◌, ◌++◌, length, map, get_or, set, ◌⊎◌, inl, inr, refl, sym, ap, ◌∙◌, subst, arith}
-use Rattle.std.specs.List.{All, Any, find, position_or_len, range_with_len, slice_get, sum_by}
+use Rattle.std.proofs.Common.{◌≡◌, ℕ, ◌+◌, ◌-◌, ◌<◌, ◌≤◌, zero, suc, true, Option, Some, None, List, [], ◌∷◌, length, map, get_or, set, inl, inr, refl, sym, ap, ◌∙◌, subst, arith}
+use Rattle.std.specs.List.{All, position_or_len, range_with_len, slice_get, sum_by}
 use Rattle.std.specs.Option.{option_map}
 use Rattle.std.proofs.lemmas.Bool.{and_parts, cases_eq}
 use Rattle.std.proofs.lemmas.List.{get_or-map, get_or_default, get_or_read, length-map}
@@ -8,11 +8,11 @@ use Rattle.std.proofs.lemmas.List.Elements.{All-cons, All-nil}
 use Rattle.std.proofs.lemmas.List.Folds.{find_at}
 use Rattle.std.proofs.lemmas.List.Sums.{passes_at_first}
 use Rattle.std.proofs.lemmas.Option.{get_or_from_slice_get, slice_get_within}
-use Rattle.balance_plan.specs.Laws.{AtLeast, AtMost, IsOf, LevelsBy}
+use Rattle.balance_plan.specs.Laws.{IsOf, LevelsBy}
 use Rattle.balance_plan.specs.Loads.{IsBelow, SlotsRise, gone, load_of, loads_of, moved}
 use Rattle.balance_plan.specs.Plan.{plan_of, step_then}
 use Rattle.balance_plan.specs.Shares.{HasShares, MayGo, changed, sent}
-use Rattle.balance_plan.specs.Steps.{goes, goes_first, greatest, least, may_go, outweighs, step_of, step_between}
+use Rattle.balance_plan.specs.Steps.{goes, goes_first, greatest, least, may_go, step_of, step_between}
 use Rattle.balance_plan.specs.declared.load.Load.{Load}
 use Rattle.balance_plan.specs.declared.load.Planned.{Planned}
 use Rattle.balance_plan.specs.declared.shares.Shares.{Shares}

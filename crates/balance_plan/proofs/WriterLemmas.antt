@@ -1,16 +1,16 @@
 -- What a writer has written, one line more.
-use Rattle.std.proofs.Common.{◌≡◌, ◌≢◌, ℕ, ◌+◌, ◌<◌, ◌≤◌, ◌==◌, Bool, true, false, nat_lt, if◌then◌else◌, List, [], ◌∷◌, ◌++◌, Option, None, Some, ◌⊎◌, inl, inr, length, map, get_or, set, take, refl, sym, ap, ◌∙◌, subst, arith, append_assoc, append-nil, get_or-set_same, get_or-set_other, length-set}
-use Rattle.std.specs.List.{All, AllPairs, Any, flat_map, position, position_or_len}
-use Rattle.std.specs.Prelude.{codes, fold, Result, Ok, Err, OnOk}
+use Rattle.std.proofs.Common.{◌≡◌, ◌≢◌, ℕ, ◌+◌, ◌<◌, ◌==◌, true, false, nat_lt, if◌then◌else◌, List, [], ◌∷◌, ◌++◌, None, Some, inl, inr, length, map, get_or, set, take, refl, sym, ap, ◌∙◌, subst, arith, append_assoc, append-nil, get_or-set_same, get_or-set_other}
+use Rattle.std.specs.List.{All, AllPairs, Any, position_or_len}
+use Rattle.std.specs.Prelude.{codes, Result, Ok, Err, OnOk}
 use Rattle.std.specs.Str.{bytes_eq}
 use Rattle.std.proofs.lemmas.Bool.{cases_eq, cond-true, eq-eqb, false_from_ne_true, lt-ltb, ne_eqb}
 use Rattle.std.proofs.lemmas.Grind.{flat_map-append}
-use Rattle.std.proofs.lemmas.List.{map-append, map_push, take_more}
+use Rattle.std.proofs.lemmas.List.{map_push, take_more}
 use Rattle.std.proofs.lemmas.List.Sums.{fold_push, position_or_len_is}
 use Rattle.std.proofs.lemmas.Map.Made.{AllPairs-from_IsDistinct}
 use Rattle.std.proofs.lemmas.Slice.Eq.{bytes_eq-Decides}
 use Rattle.address_book.specs.Book.{IsBook, slot_in}
-use Rattle.demux.specs.Asked.{Asked, Wish, imsi, move, of}
+use Rattle.demux.specs.Asked.{move}
 use Rattle.demux.specs.Destinations.{bound_for}
 use Rattle.demux.specs.Line.{asked}
 use Rattle.demux.specs.Resolved.{book_after, book_behind, decided, granted, resolved, wished_by}
@@ -25,10 +25,10 @@ use Rattle.balance_plan.specs.declared.load.Planned.{Planned}
 use Rattle.report_lines.specs.declared.entry.Entry.{Entry}
 use Rattle.trace_lines.specs.Epochs.{is_fence}
 use Rattle.trace_lines.specs.Line.{Line}
-use Rattle.balance_plan.specs.Balance.{Balance, balance_of, nothing, planned_at, with_given, with_line}
+use Rattle.balance_plan.specs.Balance.{Balance, balance_of, nothing, with_given, with_line}
 use Rattle.balance_plan.specs.Plans.{move_line, moves_at}
 use Rattle.balance_plan.specs.Written.{Written, given, line_of, lines_of, planned, text_of, written_text}
-use Rattle.balance_plan.specs.Writing.{HasWritten, IsStep, IsWriter, Stands}
+use Rattle.balance_plan.specs.Writing.{HasWritten, IsStep, Stands}
 use Rattle.balance_plan.specs.declared.writing.Writer.{Writer}
 
 -- a slot that is bound for another slice now
@@ -43,18 +43,6 @@ bound_set bound own slice slot within = elim (cases_eq own slot) [
       get_or-set_other bound own slot slice 0 (λ is. other (sym is))
       ∙ sym (ap (λ test. if test then slice else get_or bound slot 0) (ne_eqb own slot other))
 ]
-
-below_by : (test : Bool) (slice before slices : ℕ) → slice < slices → before < slices
-    → (if test then slice else before) < slices
-below_by true slice before slices one other = one
-below_by false slice before slices one other = other
-
-pub below_set : (bound : List ℕ) (own slice slices : ℕ) → own < length bound → slice < slices
-    → ((slot : ℕ) → slot < 65533 → get_or bound slot 0 < slices)
-    → (slot : ℕ) → slot < 65533 → get_or (set bound own slice) slot 0 < slices
-below_set bound own slice slices within small below slot inside =
-    subst (λ n. n < slices) (sym (bound_set bound own slice slot within))
-    (below_by (own == slot) slice (get_or bound slot 0) slices small (below slot inside))
 
 -- what is written, one line more
 pub text-push : (written : List Written) (one : Written)

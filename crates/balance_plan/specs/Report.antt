@@ -1,7 +1,7 @@
 -- What is written, by how it ended.
 use Rattle.std.specs.Prelude.{◌≡◌, ℕ, List, [], ◌++◌, Option}
 use Rattle.std.specs.Io.KnownBytes.{Appends}
-use Rattle.pc_outside.specs.Fronts.{AppendsPrefix}
+use Rattle.pc_outside.specs.Prefixes.{AppendsPrefix}
 use Rattle.pc_outside.specs.WhereTold.{WhereTold}
 use Rattle.pc_outside.specs.InputRead.{FailsBehind, IsReadWhole}
 use Rattle.audit_core.specs.Said.{HasNoEntry, report_texts}
@@ -11,7 +11,7 @@ use Rattle.balance_plan.specs.declared.balancing.Balanced.{Balanced}
 use Rattle.balance_plan.specs.declared.balancing.Balanced.TheVariants as balanced
 
 -- a prefix of the text
-pub record IsFront (slices most : ℕ) (octets text : List ℕ) : Type 0 where
+pub record IsBalancedPrefix (slices most : ℕ) (octets text : List ℕ) : Type 0 where
   pub more : List ℕ
   pub whole : IsBalanced slices most (texts_of octets).lines (text ++ more)
 
@@ -21,7 +21,7 @@ Reports balanced.Written slices most octets left text =
 Reports balanced.ReadFault slices most octets left text =
     (done : List Text) × FailsBehind octets left done × IsTrace done × (text ≡ [])
 Reports balanced.WriteFault slices most octets left text =
-    IsReadWhole octets left × IsFront slices most octets text
+    IsReadWhole octets left × IsBalancedPrefix slices most octets text
 Reports balanced.NoMemory slices most octets left text = text ≡ []
 Reports balanced.BadLine slices most octets left text = HasBadLine (texts_of octets).lines × (text ≡ [])
 Reports balanced.LineLong slices most octets left text =

@@ -1,5 +1,5 @@
 -- Two plans, worked by hand.
-use Rattle.std.specs.Prelude.{◌≡◌, ℕ, List, [], ◌∷◌}
+use Rattle.std.specs.Prelude.{◌≡◌, ℕ, [], ◌∷◌}
 use Rattle.balance_plan.specs.Plan.{plan_of}
 use Rattle.balance_plan.specs.declared.load.Load.{Load}
 use Rattle.balance_plan.specs.declared.load.Planned.{Planned}

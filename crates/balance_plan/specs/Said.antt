@@ -3,7 +3,7 @@ use Rattle.std.specs.Prelude.{◌≡◌, ℕ, List}
 use Rattle.report_lines.specs.declared.entry.Entry.{Entry}
 use Rattle.trace_lines.specs.Input.{bad, ended}
 use Rattle.trace_lines.specs.declared.bad.LineBad.{LineBad}
-use Rattle.audit_core.specs.Said.{AreEntries, HasNoEntry, report_texts, trace_said}
+use Rattle.audit_core.specs.Said.{AreEntries, report_texts, trace_said}
 use Rattle.pc_outside.specs.Texts.{Text}
 use Rattle.balance_plan.specs.Balance.{balanced}
 use Rattle.balance_plan.specs.Written.{text_of}

@@ -28,7 +28,6 @@ pub record AreCounts (counts : List ℕ) (slots since until : ℕ) (entries : Li
 pub record IsWriter (writer : Writer) : Type 0 where
   pub least : 1 ≤ writer.slices
   pub most : writer.slices ≤ 64
-  pub imsis : writer.imsis.items ≡ writer.book
   pub places : length writer.bound.items ≡ 65533
   pub below : (slot : ℕ) → slot < 65533 → get_or writer.bound.items slot 0 < writer.slices
 

@@ -79,8 +79,7 @@ fn zeros(alloc: Global, slots: usize) -> Result<Vec<u64>, NoMemory>
     ensures each { IfOk result (λ counts. (slot : ℕ) → slot < slots → get_or counts.items slot 0 ≡ 0) }
 {
     let mut counts = Vec::new(alloc);
-    for slot in 0..slots {
-        let _ = slot;
+    for _ in 0..slots {
         counts.push(0)?;
     }
     Ok(counts)

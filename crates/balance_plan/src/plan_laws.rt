@@ -1,5 +1,5 @@
 //! What the definitions mean, each the contract of a function that does nothing.
-ghost use Rattle.std.specs.Prelude.{◌≡◌, ℕ, ◌<◌, ◌≤◌, All, List, Some};
+ghost use Rattle.std.specs.Prelude.{◌≡◌, ℕ, ◌≤◌, All, List, Some};
 ghost use Rattle.balance_plan.specs.Laws.{IsOf, LevelsBy};
 ghost use Rattle.balance_plan.specs.Loads.{IsBelow, SlotsRise};
 ghost use Rattle.balance_plan.specs.Plan.{plan_of};

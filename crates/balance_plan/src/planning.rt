@@ -24,8 +24,7 @@ pub fn plan(
 {
     let mut planned = Vec::new(alloc);
     let mut shares = Shares::of(alloc, loads, slices)?;
-    for step in 0..most {
-        let _ = step;
+    for _ in 0..most {
         let Some(next) = shares.step() else {
             return Ok(planned);
         };

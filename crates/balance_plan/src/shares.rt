@@ -95,8 +95,7 @@ fn zeros(alloc: Global, slices: u8) -> Result<Vec<u64>, AllocError>
     ensures { IfOk result (λ totals. totals.items ≡ loads_of slices []) }
 {
     let mut totals = Vec::new(alloc);
-    for slice in 0..slices {
-        let _ = slice;
+    for _ in 0..slices {
         totals.push(0)?;
     }
     Ok(totals)

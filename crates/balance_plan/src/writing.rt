@@ -28,7 +28,6 @@ pub(crate) struct Writer {
     slices: u8,
     most: u32,
     book: AddressBook,
-    imsis: Vec<Imsi>,
     bound: Vec<SliceNo>,
     // How many lines of the trace it has, and which of them was the last FENCE (0: none yet).
     lines: usize,
@@ -43,17 +42,12 @@ fn is_fence(line: &TraceLine) -> bool
 }
 
 // Whom a command is for is in the book.
-fn admit(book: &mut AddressBook, imsis: &mut Vec<Imsi>, whose: Whose) -> Result<(), NoMemory>
-    requires due { IsDue book.old whose }
-    requires same { imsis.old.items ≡ book.old }
-    ensures book { OnOk result (book.new ≡ book_with book.old whose) }
-    ensures imsis { OnOk result (imsis.new.items ≡ book_with book.old whose) }
+fn admit(book: &mut AddressBook, whose: Whose) -> Result<(), NoMemory>
+    requires { IsDue book.old whose }
+    ensures { OnOk result (book.new ≡ book_with book.old whose) }
 {
-    let _slot = whose.admit(book)?;
-    match &whose {
-        Whose::New(imsi) => Ok(imsis.push(*imsi)?),
-        Whose::Known(_) => Ok(()),
-    }
+    whose.admit(book)?;
+    Ok(())
 }
 
 // A slot is bound for a slice.
@@ -107,7 +101,6 @@ impl Writer {
             slices,
             most,
             book: AddressBook::new(alloc),
-            imsis: Vec::new(alloc),
             bound: start_slices(alloc, slices)?,
             lines: 0,
             fence: 0,
@@ -174,10 +167,8 @@ impl Writer {
         ensures lines { self.new.lines ≡ self.old.lines }
         ensures fence { self.new.fence ≡ self.old.fence }
     {
-        // At most 65,533 are in it.
-        let _known = self.book.len();
         match made {
-            Decision::Command { whose, .. } => admit(&mut self.book, &mut self.imsis, *whose),
+            Decision::Command { whose, .. } => admit(&mut self.book, *whose),
             Decision::Move { slot, slice } => {
                 self.bound[slot.0 as usize] = *slice;
                 Ok(())
@@ -275,10 +266,8 @@ impl Writer {
         ensures lines { self.new.lines ≡ self.old.lines }
         ensures fence { self.new.fence ≡ self.old.fence }
     {
-        // At most 65,533 are in it, each once.
-        let _known = self.book.len();
-        let alloc = *self.imsis.allocator();
-        let line = move_of(alloc, &self.imsis, fence, step);
+        let alloc = *self.bound.allocator();
+        let line = move_of(alloc, self.book.imsis(), fence, step);
         bind(&mut self.bound, step.slot, step.slice);
         push_line(&mut self.text, &line)
     }

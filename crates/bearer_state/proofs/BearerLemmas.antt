@@ -1,7 +1,6 @@
 -- Bearers stay bearers of a session through each change.
-use Rattle.std.proofs.Common.{◌≡◌, ◌≢◌, ℕ, ◌+◌, ◌<◌, ◌≤◌, Bool, true, false, not, ◌&&◌, ◌||◌, eqb, if◌then◌else◌, nat_lt, ◌==◌, List, [], ◌∷◌, map, Option, Some, None, refl, sym, ap, ◌∙◌, arith}
-use Rattle.std.specs.List.{AllByRecursion, list_any}
-use Rattle.std.proofs.lemmas.Bool.{false≢true}
+use Rattle.std.proofs.Common.{◌≡◌, ◌≢◌, ℕ, ◌<◌, Bool, true, false, if◌then◌else◌, nat_lt, ◌==◌, List, [], ◌∷◌, map, refl, sym, arith}
+use Rattle.std.specs.List.{AllByRecursion}
 use Rattle.std.proofs.lemmas.Bool.Decides.{nat_tests}
 use Rattle.pc_base.specs.declared.packet.Peer.{Peer}
 use Rattle.tft_codec.specs.declared.filter.Filter.{Filter}
@@ -9,8 +8,8 @@ use Rattle.bearer_state.specs.declared.ask.Ask.{Ask}
 use Rattle.bearer_state.specs.declared.bearer.Phase.{Phase}
 use Rattle.bearer_state.specs.declared.bearer.Phase.TheVariants.{Asked, Active}
 use Rattle.bearer_state.specs.declared.bearer.Bearer.{Bearer}
-use Rattle.bearer_state.specs.Bearer.{IsEbi, IsPhase, IsBearer, IsBefore, EbisDiffer, EachPair, AreBearers, index_of, is_active, is_active_as, is_asked}
-use Rattle.bearer_state.specs.Lookup.{has_index, has_active, is_dedicated}
+use Rattle.bearer_state.specs.Bearer.{IsEbi, IsBearer, IsBefore, EbisDiffer, EachPair, AreBearers, index_of, is_active, is_active_as}
+use Rattle.bearer_state.specs.Lookup.{has_index, has_active}
 use Rattle.bearer_state.specs.Changes.{with_first, without_first, placed, unbound, rebound_bearer, filtered, granted_bearer}
 
 -- what holds of each holds of each that is left

@@ -1,5 +1,5 @@
 -- There are at most as many bearers as indices.
-use Rattle.std.proofs.Common.{ℕ, ◌+◌, ◌<◌, ◌≤◌, List, [], ◌∷◌, length, arith}
+use Rattle.std.proofs.Common.{ℕ, ◌+◌, ◌≤◌, List, [], ◌∷◌, length, arith}
 use Rattle.std.specs.List.{AllByRecursion}
 use Rattle.bearer_state.specs.declared.bearer.Bearer.{Bearer}
 use Rattle.bearer_state.specs.Bearer.{IsBearer, IsBefore, EachPair, AreBearers, index_of}

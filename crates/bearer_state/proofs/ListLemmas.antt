@@ -30,7 +30,7 @@ pub filter_map_pushed : {X Y : Type 0} (h : X → Option Y) (xs : List X) (i : �
     → i < length xs → x ≡ get_or xs i x
     → h x ≡ Some y → made ≡ filter_map h (take i xs) → made ++ y ∷ [] ≡ filter_map h (take (i + 1) xs)
 filter_map_pushed h xs i x y made lt is some so_far =
-    ap (λ front. front ++ y ∷ []) so_far ∙ ap (λ given. filter_map h (take i xs) ++ cons_option given []) (sym some)
+    ap (λ prefix. prefix ++ y ∷ []) so_far ∙ ap (λ given. filter_map h (take i xs) ++ cons_option given []) (sym some)
     ∙ sym (filter_map_more h xs i x lt is)
 
 each_cons : {Y : Type 0} (Q : Y → Type 0) (given : Option Y) (ys : List Y) → IfSome given Q → AllByRecursion Q ys

@@ -1,12 +1,12 @@
 -- The version of a session in its ranges is in its own.
-use Rattle.std.proofs.Common.{◌≡◌, ◌≢◌, ℕ, ◌<◌, ◌≤◌, ◌^◌, Bool, true, false, List, [], ◌∷◌, map, Option, Some, None, IfSome, refl, ap, arith}
-use Rattle.std.specs.List.{AllByRecursion, filter_map, cons_option}
+use Rattle.std.proofs.Common.{◌≡◌, ℕ, ◌<◌, ◌≤◌, ◌^◌, Bool, true, false, List, [], ◌∷◌, map, IfSome, refl, ap, arith}
+use Rattle.std.specs.List.{AllByRecursion, cons_option}
 use Rattle.tft_codec.specs.declared.tft.BearerFilters.{BearerFilters}
 use Rattle.bearer_state.specs.declared.bearer.Phase.{Phase}
 use Rattle.bearer_state.specs.declared.bearer.Phase.TheVariants.{Asked, Active}
 use Rattle.bearer_state.specs.declared.bearer.Bearer.{Bearer}
 use Rattle.bearer_state.specs.declared.version.ActiveBearer.{ActiveBearer}
-use Rattle.bearer_state.specs.Bearer.{IsBearer, IsBefore, IsPhase, EbisDiffer, EachPair, AreBearers}
+use Rattle.bearer_state.specs.Bearer.{IsBearer, IsBefore, IsPhase, EbisDiffer, AreBearers}
 use Rattle.bearer_state.specs.Session.{SessionState, IsSession, HasBearersOf}
 use Rattle.bearer_state.specs.Version.{active_in, row_in, actives, rows_of, version_of, IsActiveBearer, IsActiveBefore, IsVersion}
 use Rattle.bearer_state.proofs.ListLemmas.{each_given, pairs_given}

@@ -1,5 +1,5 @@
 -- The bearers of a session, a list in rising order of index, and the ranges that it keeps.
-use Rattle.std.specs.Prelude.{◌≡◌, ◌≢◌, ℕ, ◌<◌, ◌≤◌, ◌^◌, Bool, false, ◌==◌, List, [], ◌∷◌}
+use Rattle.std.specs.Prelude.{◌≢◌, ℕ, ◌<◌, ◌≤◌, ◌^◌, Bool, false, ◌==◌, List, [], ◌∷◌}
 use Rattle.std.specs.List.{AllByRecursion}
 use Rattle.bearer_state.specs.declared.bearer.Phase.{Phase}
 use Rattle.bearer_state.specs.declared.bearer.Phase.TheVariants.{Asked, Active}

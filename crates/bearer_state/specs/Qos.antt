@@ -1,5 +1,5 @@
 -- The ranges of a quality of service (TS 29.274, 8.15), and the classes with a guaranteed rate.
-use Rattle.std.specs.Prelude.{◌≡◌, ℕ, ◌/◌, ◌%◌, ◌<◌, ◌≤◌, ◌^◌, Bool, ◌&&◌, nat_le}
+use Rattle.std.specs.Prelude.{◌≡◌, ℕ, ◌/◌, ◌%◌, ◌<◌, ◌^◌, Bool, ◌&&◌, nat_le}
 use Rattle.bearer_state.specs.declared.qos.Qos.{Qos}
 
 -- an ARP octet whose spare bits 8 and 2 are 0

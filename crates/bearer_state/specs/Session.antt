@@ -1,6 +1,6 @@
 -- A session as contracts see it, and the ranges that it keeps.
 use Rattle.std.specs.Prelude.{◌≡◌, ℕ, ◌-◌, ◌<◌, ◌≤◌, ◌^◌, Bool, true, false, List, [], ◌∷◌}
-use Rattle.std.specs.Prelude.{length, Option, Some, None, IfSome}
+use Rattle.std.specs.Prelude.{length, Option, None, IfSome}
 use Rattle.std.specs.List.{AllByRecursion}
 use Rattle.pc_base.specs.declared.packet.Peer.{Peer}
 use Rattle.bearer_state.specs.declared.bearer.Phase.{Phase}

@@ -1,6 +1,6 @@
 -- The version of a session that its packets go by: its active bearers, and the filters of each.
 use Rattle.std.specs.Prelude.{◌≡◌, ◌≢◌, ℕ, ◌<◌, ◌≤◌, ◌^◌, Bool, false, ◌==◌, List, []}
-use Rattle.std.specs.Prelude.{◌∷◌, map, Option, Some, None, length}
+use Rattle.std.specs.Prelude.{map, Option, Some, None}
 use Rattle.std.specs.List.{AllByRecursion, filter_map, find}
 use Rattle.pc_base.specs.declared.packet.Peer.{Peer}
 use Rattle.tft_codec.specs.declared.tft.BearerFilters.{BearerFilters}

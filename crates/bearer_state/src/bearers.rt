@@ -33,12 +33,11 @@ impl Model for Bearers {
 }
 
 impl Bearers {
-    ghost use Rattle.std.specs.Prelude.{◌≡◌, ◌≢◌, ◌<◌, false, [], ◌∷◌, map, OnOk, OnErr, IfOk, IfSome};
+    ghost use Rattle.std.specs.Prelude.{◌≡◌, ◌<◌, false, [], ◌∷◌, map, OnOk, OnErr, IfOk, IfSome};
     ghost use Rattle.std.specs.Prelude.{IfNone, Some, None, length, ◌≤◌};
     ghost use Rattle.std.specs.List.{AllByRecursion, find};
     ghost use Rattle.std.specs.Option.{option_copied};
     ghost use Rattle.bearer_state.specs.declared.bearer.Bearer.{Bearer};
-    ghost use Rattle.bearer_state.specs.Ask.{AreAsks};
     ghost use Rattle.bearer_state.specs.Bearer.{AreBearers, IsBearer, IsEbi, index_of, is_active, is_asked};
     ghost use Rattle.bearer_state.specs.Qos.{IsQos};
     ghost use Rattle.bearer_state.specs.Lookup.{at_index, least_free, has_index, has_active, has_dedicated};
@@ -74,7 +73,7 @@ impl Bearers {
         requires { IsBearer bearer }
         ensures { IfOk result (λ bearers. bearers ≡ bearer ∷ []) }
     {
-        let mut items = Vec::new(alloc);
+        let mut items = Vec::with_capacity(alloc, 1)?;
         items.push(bearer)?;
         Ok(Bearers { items })
     }

@@ -80,9 +80,9 @@ impl Numbered for Version {
 }
 
 impl Version {
-    ghost use Rattle.std.specs.Prelude.{◌≡◌, ◌≤◌, ◌^◌, IfOk, IfSome};
+    ghost use Rattle.std.specs.Prelude.{◌≡◌, ◌≤◌, ◌^◌, IfOk};
     ghost use Rattle.std.specs.Option.{option_copied};
-    ghost use Rattle.bearer_state.specs.Version.{version_of, bearer_at, IsVersion, IsActiveBearer};
+    ghost use Rattle.bearer_state.specs.Version.{version_of, bearer_at, IsVersion};
 
     /// The version of a session under a number.
     pub(crate) fn of(session: &Session, number: u64) -> Result<Version, NoMemory>
@@ -122,7 +122,8 @@ impl Version {
 
     /// The active bearer of an index.
     pub fn bearer_at(&self, index: u8) -> Option<&ActiveBearer>
-        ensures { option_copied result ≡ bearer_at self.now.bearers index }
+        ensures value { option_copied result ≡ bearer_at self.now.bearers index }
+        ensures valid { IsVersion self.now }
     {
         self.actives.iter().find(|bearer| bearer.index == index)
     }

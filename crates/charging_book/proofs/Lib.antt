@@ -7,5 +7,6 @@ pub mod LedgerSums
 pub mod Bounds
 pub mod PostingLemmas
 pub mod PartLemmas
+pub mod KeptLemmas
 pub mod PostedLemmas
 mod Answered

@@ -1,5 +1,6 @@
 // The book of a subscriber.
-ghost use Rattle.std.specs.Prelude.{◌≡◌, ◌≢◌, ◌<◌, All, Contains, IfNone, IfSome, length, map, slice_index};
+ghost use Rattle.std.specs.Prelude.{◌≡◌, ◌≢◌, ◌+◌, ◌<◌, [], ◌∷◌, ◌++◌, All, Contains, IfNone, IfSome, OnErr, OnOk};
+ghost use Rattle.std.specs.Prelude.{length, map, slice_index, vec_len};
 ghost use Rattle.charging_book.specs.Ledger.{LedgersArePartitions, EachOctetOnce, EachPacketOnce};
 ghost use Rattle.charging_book.specs.Accounts.{AreBounded};
 
@@ -88,12 +89,12 @@ impl Book {
         ensures pieces { OnOk result (GoesOn self.old self.new (started life ebi qci)) }
         ensures unchanged { OnErr result (self.new ≡ self.old) }
     {
-        self.opens.push(Open::new(life, ebi, qci))?;
-        match self.spans.push(Span::new()) {
+        push_one(&mut self.opens, Open::new(life, ebi, qci))?;
+        match push_one(&mut self.spans, Span::new()) {
             Ok(()) => Ok(()),
             Err(failed) => {
                 let _ = self.opens.pop();
-                Err(failed.into())
+                Err(failed)
             }
         }
     }
@@ -157,7 +158,7 @@ impl Book {
         }) }
         ensures unchanged { OnErr result (self.new ≡ self.old) }
     {
-        self.rows.push(ChargeRow::new(counted, span, Why::Volume))?;
+        push_one(&mut self.rows, ChargeRow::new(counted, span, Why::Volume))?;
         self.opens[place] = counted.next();
         self.spans[place] = Span::new();
         Ok(())
@@ -176,8 +177,10 @@ impl Book {
     {
         let place = place_of(&self.opens, life);
         let counted = self.opens[place];
-        self.rows
-            .push(ChargeRow::new(&counted, &self.spans[place], why))?;
+        push_one(
+            &mut self.rows,
+            ChargeRow::new(&counted, &self.spans[place], why),
+        )?;
         match why {
             Why::Gone => {
                 let _ = self.opens.remove(place);
@@ -253,6 +256,29 @@ pub fn each_packet_once()
 pub fn counts_are_bounded()
     ensures { AreBounded }
 {}
+
+// One member more.
+fn push_one<T: Copy>(list: &mut Vec<T>, member: T) -> Result<(), NoMemory>
+    ensures pushed { OnOk result (list.new.items ≡ list.old.items ++ member ∷ []) }
+    ensures len { OnOk result (vec_len list.new ≡ vec_len list.old + 1) }
+    ensures unchanged { OnErr result (list.new.items ≡ list.old.items) }
+    ensures same_len { OnErr result (vec_len list.new ≡ vec_len list.old) }
+{
+    make_room(list)?;
+    list.push(member)?;
+    Ok(())
+}
+
+// An empty list takes room for one member alone: most subscribers have one life, and most happenings give one row.
+fn make_room<T: Copy>(list: &mut Vec<T>) -> Result<(), NoMemory>
+    ensures items { list.new.items ≡ list.old.items }
+    ensures len { vec_len list.new ≡ vec_len list.old }
+{
+    if list.is_empty() {
+        return list.reserve_exact(1);
+    }
+    Ok(())
+}
 
 // Where a life stands among the open ones, if it does.
 #[inline(always)]

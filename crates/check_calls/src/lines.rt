@@ -1,8 +1,6 @@
 //! Reads lines of a trace, each behind the least moment that it may have, and says of each what line it is and
 //! how it prints and is written, or why it is refused; and of some lines whether an epoch ends behind them.
 
-ghost use Rattle.std.specs.Prelude.{ℕ, List};
-
 use pc_base::{LAST_MOMENT, Moment, NoMemory};
 use std::alloc::Global;
 use std::{fs, io};

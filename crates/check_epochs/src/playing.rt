@@ -1,5 +1,6 @@
 //! A trace is played, and its report audited.
 ghost use Rattle.std.specs.Prelude.{◌≤◌, length};
+ghost use Rattle.at_rest.specs.Coming.{AreLater};
 
 use crate::TraceStop;
 use crate::lines::{input_of, lines_of};
@@ -10,7 +11,7 @@ use front_core::{Ended, FrontEntry};
 use pc_base::{Place, SliceNo};
 use pc_outside::{SureSink, SureSource};
 use replay_command::push_entries;
-use slice_core::run_epoch;
+use slice_core::{Pace, run_epoch};
 use slot_execution::ToldEntry;
 use std::alloc::{AllocError, Global};
 use std::sync::Wait;
@@ -44,7 +45,7 @@ pub struct PlayedTrace {
 }
 
 // Whether a packet was handled at this slice.
-fn handled_at(entries: &[FrontEntry], slice: SliceNo) -> bool {
+fn handled_at(entries: &[FrontEntry<'_>], slice: SliceNo) -> bool {
     for entry in entries {
         if let ToldEntry::Judgement {
             place: Some(Place::At(at)),
@@ -60,7 +61,7 @@ fn handled_at(entries: &[FrontEntry], slice: SliceNo) -> bool {
 }
 
 // Whether an audit finds that the report of an epoch is a lawful one of these lines.
-fn is_lawful(alloc: Global, lines: &[TraceLine], ended: Ended) -> Result<bool, TraceStop>
+fn is_lawful(alloc: Global, lines: &[TraceLine], ended: Ended<'_>) -> Result<bool, TraceStop>
     requires { length lines.now ≤ 1000000 }
 {
     let mut report = Text::new(alloc);
@@ -90,13 +91,29 @@ pub fn play<R: Threads + Wait + Sync>(
     octets: &[u8],
 ) -> Result<PlayedTrace, TraceStop> {
     let lines = lines_of(alloc, octets)?;
-    let taken = lines.as_slice();
-    let rest = AtRest::new(alloc, SLICES, ROOM, LANE);
     let gate = Meeting::new();
-    let ended = run_epoch(rt, alloc, rest, taken, PATIENCE, LINGER, &gate)?;
+    play_lines(rt, alloc, lines.as_slice(), &gate)
+}
+
+// Plays lines, with the threads' gate.
+fn play_lines<'p, R: Threads + Wait + Sync>(
+    rt: &'p R,
+    alloc: Global,
+    lines: &'p [TraceLine],
+    gate: &'p Meeting,
+) -> Result<PlayedTrace, TraceStop>
+    requires later { AreLater 0 lines.now }
+    requires few { length lines.now ≤ 1000000 }
+{
+    let rest = AtRest::new(alloc, SLICES, ROOM, LANE);
+    let pace = Pace {
+        patience: PATIENCE,
+        linger: LINGER,
+    };
+    let ended = run_epoch(rt, alloc, rest, lines, pace, gate)?;
     let at_first = handled_at(ended.epoch.lines.as_slice(), SliceNo(0));
     let at_second = handled_at(ended.epoch.lines.as_slice(), SliceNo(1));
-    let lawful = is_lawful(alloc, taken, ended)?;
+    let lawful = is_lawful(alloc, lines, ended)?;
     Ok(PlayedTrace {
         lawful,
         met: gate.met(),

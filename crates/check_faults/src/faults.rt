@@ -61,8 +61,27 @@ fn whole_lines(octets: &[u8]) -> &[u8] {
     }
 }
 
+// How many pieces of an audit's input are whole, each with the line behind it.
+fn pieces_in(octets: &[u8]) -> usize {
+    whole_lines(octets)
+        .split(|octet| *octet == b'\n')
+        .filter(|line| *line == b"TRACE".as_slice())
+        .count()
+}
+
+// So many first lines.
+fn first_lines(alloc: Global, octets: &[u8], count: usize) -> Result<Vec<u8>, AllocError> {
+    let mut lines = Vec::new(alloc);
+    for line in octets.split(|octet| *octet == b'\n').take(count) {
+        lines.extend_from_slice(line)?;
+        lines.push(b'\n')?;
+    }
+    Ok(lines)
+}
+
 // What is due where a read fails behind so many octets: of a trace the answer to its whole lines, of a capture that to
-// all octets, of an audit, of planned moves and of a state nothing.
+// all octets, of an audit, of planned moves and of a state nothing; of an audit in pieces what is said of each of those
+// that `TRACE` ends.
 fn due<R: Threads + Wait + Sync>(
     rt: &R,
     alloc: Global,
@@ -72,6 +91,10 @@ fn due<R: Threads + Wait + Sync>(
     octets: usize,
 ) -> Result<Vec<u8>, AllocError> {
     let taken = input.get(..octets).unwrap_or(input);
+    if row.word(4) == b"--along".as_slice() {
+        let whole = run(rt, alloc, words, input, octets, &[], &[])?;
+        return first_lines(alloc, &whole.written, pieces_in(taken));
+    }
     let given = match row.word(3) {
         b"audit" | b"balance" | b"save" => return Ok(Vec::new(alloc)),
         b"import" => taken,

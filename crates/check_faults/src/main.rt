@@ -17,10 +17,11 @@ use std::sync::Wait;
 use std::thread::Threads;
 
 // The inputs that rows name.
-const NAMES: [&str; 6] = [
+const NAMES: [&str; 7] = [
     "whole.trace",
     "whole.pcap",
     "whole.audit",
+    "whole.pieces",
     "two-records.pcap",
     "entries.txt",
     "resumed.trace",

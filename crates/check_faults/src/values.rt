@@ -14,62 +14,63 @@ pub fn words(alloc: Global, row: &Call, text: &mut String) -> Result<(), AllocEr
     let words = row.texts(alloc, 1)?;
     match job(alloc, words.as_slice())? {
         None => text.push_str("none")?,
-        Some(Job::Solo) => text.push_str("solo")?,
-        Some(
-            Job::Drive {
-                lanes,
-                turns,
-                places,
-            },
-        ) => {
+        Some(asked) => push_job(asked, text)?,
+    }
+    text.push('\n')
+}
+
+fn push_job(asked: Job, text: &mut String) -> Result<(), AllocError> {
+    match asked {
+        Job::Solo => text.push_str("solo"),
+        Job::Drive {
+            lanes,
+            turns,
+            places,
+        } => {
             push_lanes(text, "drive: ", lanes)?;
             push_turns(turns, text)?;
-            push_told(text, ", places ", &places)?
+            push_told(text, ", places ", &places)
         }
-        Some(
-            Job::Replay {
-                lanes,
-                patience,
-                linger,
-                places,
-            },
-        ) => {
+        Job::Replay {
+            lanes,
+            patience,
+            linger,
+            places,
+        } => {
             push_lanes(text, "replay: ", lanes)?;
             push_told(text, ", patience ", &patience)?;
             push_told(text, ", linger ", &linger)?;
-            push_told(text, ", places ", &places)?
+            push_told(text, ", places ", &places)
         }
-        Some(Job::Import) => text.push_str("import")?,
-        Some(Job::Export) => text.push_str("export")?,
-        Some(Job::Save) => text.push_str("save")?,
-        Some(Job::Resume) => text.push_str("resume")?,
-        Some(
-            Job::Make {
-                seed,
-                subs,
-                lines,
-                summary,
-            },
-        ) => push_make(text, seed, [subs, lines], summary)?,
-        Some(
-            Job::Audit {
-                solo,
-                slices,
-                room,
-                lane,
-                why,
-            },
-        ) => {
-            push_told(text, "audit: solo ", &solo)?;
-            push_lanes(text, ", ", Lanes { slices, room, lane })?;
-            push_told(text, ", why ", &why)?
-        }
-        Some(Job::Balance { slices, most }) => {
+        Job::Import => text.push_str("import"),
+        Job::Export => text.push_str("export"),
+        Job::Save => text.push_str("save"),
+        Job::Resume => text.push_str("resume"),
+        Job::Make {
+            seed,
+            subs,
+            lines,
+            summary,
+        } => push_make(text, seed, [subs, lines], summary),
+        Job::Audit {
+            solo,
+            slices,
+            room,
+            lane,
+            why,
+        } => push_audit(text, "audit", solo, Lanes { slices, room, lane }, why),
+        Job::Along {
+            solo,
+            slices,
+            room,
+            lane,
+            why,
+        } => push_audit(text, "audit along", solo, Lanes { slices, room, lane }, why),
+        Job::Balance { slices, most } => {
             push_told(text, "balance: ", &slices)?;
-            push_told(text, " slices, at most ", &most)?
+            push_told(text, " slices, at most ", &most)
         }
     }
-    text.push('\n')
 }
 
 fn push_make(
@@ -88,6 +89,19 @@ fn push_lanes(text: &mut String, command: &str, lanes: Lanes) -> Result<(), Allo
     push_told(text, command, &lanes.slices)?;
     push_told(text, " slices, room ", &lanes.room)?;
     push_told(text, ", lane ", &lanes.lane)
+}
+
+fn push_audit(
+    text: &mut String,
+    command: &str,
+    solo: bool,
+    lanes: Lanes,
+    why: bool,
+) -> Result<(), AllocError> {
+    text.push_str(command)?;
+    push_told(text, ": solo ", &solo)?;
+    push_lanes(text, ", ", lanes)?;
+    push_told(text, ", why ", &why)
 }
 
 fn push_turns(turns: AskedTurns, text: &mut String) -> Result<(), AllocError> {

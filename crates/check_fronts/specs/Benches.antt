@@ -1,5 +1,5 @@
 -- What is known of a gateway whose workers are turned by hand.
-use Rattle.std.specs.Prelude.{◌≡◌, ℕ, ◌≤◌, Bool, false, List, map}
+use Rattle.std.specs.Prelude.{◌≡◌, ◌≤◌, false, List, map}
 use Rattle.trace_lines.specs.Line.{Line}
 use Rattle.lawful_run.specs.Merging.{Histories}
 use Rattle.at_rest.specs.Rest.{IsBehind, RepresentsAll}

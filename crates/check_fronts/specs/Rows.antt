@@ -1,5 +1,4 @@
 -- What is known of a row.
-use Rattle.std.specs.Prelude.{ℕ}
 use Rattle.check_fronts.specs.declared.rows.Row.{Row}
 use Rattle.check_fronts.specs.declared.rows.Row.TheVariants as row
 use Rattle.check_fronts.specs.Benches.{IsGateway}

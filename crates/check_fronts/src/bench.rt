@@ -17,7 +17,7 @@ use pc_outside::{SureSink, SureSource};
 use std::alloc::{AllocError, Global};
 use std::sync::Wait;
 use text_fields::Text;
-use trace_lines::{LineBad, LineKind, TraceLine, push_text, read_line};
+use trace_lines::{TraceLine, push_text};
 use trace_run::push_opens;
 
 // How many lines a trace may have.
@@ -26,15 +26,14 @@ const MOST_LINES: u64 = 1_000_000;
 // What an audit finds is no longer.
 const FINDING_LEN: usize = 16;
 
-/// A gateway over slices in an epoch, the lines that it took, and the report of the epochs before.
+/// A gateway over slices in an epoch, whose packets lie in the lines that it took, and the report of the epochs before.
 #[derive(Drop)]
-pub struct Bench {
+pub struct Bench<'p> {
     alloc: Global,
     setup: Setup,
     patience: u32,
-    opened: Opened,
+    opened: Opened<'p>,
     latest: Moment,
-    lines: Vec<TraceLine>,
     report: Text,
 }
 
@@ -60,9 +59,9 @@ impl Told {
     }
 }
 
-impl Bench {
+impl<'p> Bench<'p> {
     /// A gateway with no subscriber, in its first epoch.
-    pub fn new(alloc: Global, setup: Setup, patience: u32) -> Result<Bench, RowStop>
+    pub fn new(alloc: Global, setup: Setup, patience: u32) -> Result<Bench<'p>, RowStop>
         requires { IsGateway setup }
         ensures { IfOk result Stands }
     {
@@ -73,32 +72,15 @@ impl Bench {
             patience,
             opened: Front::open(alloc, rest)?,
             latest: Moment(0),
-            lines: Vec::new(alloc),
             report: Text::new(alloc),
         })
     }
 
-    // The number of the next line.
-    fn next(&self) -> u64 {
-        (self.lines.len() as u64).saturating_add(1)
-    }
-
-    /// The line of these octets.
-    pub fn read(&self, octets: &[u8]) -> Result<TraceLine, RowStop> {
-        match read_line(self.alloc, octets, self.next(), self.latest) {
-            Ok(line) => Ok(line),
-            Err(LineBad::NoMemory) => Err(RowStop::NoMemory),
-            Err(_) => Err(RowStop::Row),
-        }
-    }
-
     /// Takes a line, as the next one.
-    pub fn take<R: Wait>(&mut self, rt: &R, line: TraceLine) -> Result<(), RowStop>
+    pub fn take<R: Wait>(&mut self, rt: &R, line: &'p TraceLine) -> Result<(), RowStop>
         requires { Stands self.old }
         ensures { OnOk result (Stands self.new) }
     {
-        let mut line = line;
-        line.number = self.next();
         if self.opened.front.lines() > MOST_LINES {
             return Err(RowStop::Row);
         }
@@ -106,21 +88,9 @@ impl Bench {
         if moment.0 < latest.0 {
             return Err(RowStop::Row);
         }
-        let _took = self.opened.front.line(rt, &line, self.patience, &[])?;
+        let _took = self.opened.front.line(rt, line, self.patience, &[])?;
         self.latest = moment;
-        let Ok(()) = self.lines.push(line) else {
-            return Err(RowStop::NoMemory);
-        };
         Ok(())
-    }
-
-    /// An order to end the epoch, at the moment of the last line.
-    pub fn fence<R: Wait>(&mut self, rt: &R) -> Result<(), RowStop>
-        requires { Stands self.old }
-        ensures { OnOk result (Stands self.new) }
-    {
-        let line = fence_at(self.alloc, self.next(), self.latest);
-        self.take(rt, line)
     }
 
     /// A turn of a worker: of slice i those of the numbers 2 i and 2 i + 1.
@@ -137,7 +107,7 @@ impl Bench {
     }
 
     /// The epoch ends, and another begins.
-    pub fn close<R: Wait>(self, rt: &R, places: bool) -> Result<Bench, RowStop>
+    pub fn close<R: Wait>(self, rt: &R, places: bool) -> Result<Bench<'p>, RowStop>
         requires { Stands self }
         ensures { IfOk result Stands }
     {
@@ -147,7 +117,6 @@ impl Bench {
             patience,
             opened,
             latest,
-            lines,
             mut report,
         } = self;
         let Ended { epoch, rest } = close_epoch(rt, alloc, opened)?;
@@ -158,13 +127,12 @@ impl Bench {
             patience,
             opened: Front::open(alloc, rest)?,
             latest,
-            lines,
             report,
         })
     }
 
-    /// The last epoch ends: the whole report.
-    pub fn end<R: Wait>(self, rt: &R, places: bool) -> Result<Told, RowStop>
+    /// The last epoch ends: the whole report, of these lines.
+    pub fn end<R: Wait>(self, rt: &R, lines: &[TraceLine], places: bool) -> Result<Told, RowStop>
         requires { Stands self }
     {
         let Bench {
@@ -173,33 +141,26 @@ impl Bench {
             patience: _,
             opened,
             latest: _,
-            lines,
             mut report,
         } = self;
         let Ended { epoch, rest } = close_epoch(rt, alloc, opened)?;
         push_epoch(&mut report, &epoch, places)?;
         push_opens(&mut report, rest.subscribers.as_slice())?;
-        let found = found_of(alloc, &setup, lines.as_slice(), report.as_slice())?;
+        let found = found_of(alloc, &setup, lines, report.as_slice())?;
         Ok(Told { report, found })
     }
 }
 
-// The order to end an epoch.
-fn fence_at(alloc: Global, number: u64, moment: Moment) -> TraceLine {
-    TraceLine {
-        number,
-        moment,
-        kind: LineKind::Fence,
-        octets: Text::new(alloc),
-    }
-}
-
 // The workers stop, and the epoch is closed.
-fn close_epoch<R: Wait>(rt: &R, alloc: Global, opened: Opened) -> Result<Ended, AllocError>
+fn close_epoch<'p, R: Wait>(
+    rt: &R,
+    alloc: Global,
+    opened: Opened<'p>,
+) -> Result<Ended<'p>, AllocError>
     requires { HasWorkers opened }
-    ensures closes { IfOk result (λ ended. Closes (opened_of opened.front) (taken_by opened.front) ended.rest
-        (told_by ended.epoch)) }
-    ensures latest { IfOk result (λ ended. ended.rest.latest ≡ latest_in opened.front) }
+    ensures closes { IfOk result (λ ended. Closes (opened_of opened.entry.front) (taken_by opened.entry.front)
+        ended.rest (told_by ended.epoch)) }
+    ensures latest { IfOk result (λ ended. ended.rest.latest ≡ latest_in opened.entry.front) }
 {
     let Opened {
         front,

@@ -1,15 +1,17 @@
 //! Traces and orders of turns that are drawn.
-ghost use Rattle.std.specs.Prelude.{◌<◌, ◌≤◌, OnOk};
+ghost use Rattle.std.specs.Prelude.{◌<◌, ◌≤◌, IfOk};
 ghost use Rattle.check_fronts.specs.Benches.{IsGateway};
 ghost use Rattle.check_fronts.specs.Stands.{Stands};
 
-use crate::bench::Bench;
+use crate::bench::{Bench, Told};
+use crate::lines::{add_line, fence_at};
 use crate::stop::RowStop;
 use audit_core::Setup;
+use pc_base::Moment;
 use std::alloc::Global;
 use std::sync::Wait;
 use text_fields::Text;
-use trace_lines::TraceLine;
+use trace_lines::{LineKind, TraceLine};
 use trace_maker::{Draws, Maker, made_line};
 
 // Of a drawn trace.
@@ -29,45 +31,61 @@ fn drawn_setup(draws: &mut Draws) -> Setup
     }
 }
 
-// A line, and a few drawn turns behind it.
-fn play_line<R: Wait>(
+// The lines of the epochs, each with an order to end it behind them.
+fn drawn_lines(alloc: Global, maker: &mut Maker) -> Result<Vec<TraceLine>, RowStop> {
+    let mut lines: Vec<TraceLine> = Vec::new(alloc);
+    let mut latest = Moment(0);
+    for _ in 0..EPOCHS {
+        for _ in 0..LINES {
+            let Some(line) = made_line(alloc, maker)? else {
+                continue;
+            };
+            latest = line.moment;
+            add_line(&mut lines, line)?;
+        }
+        add_line(&mut lines, fence_at(alloc, latest))?;
+    }
+    Ok(lines)
+}
+
+// A line, and a few drawn turns behind it, or the end of an epoch.
+fn play_line<'p, R: Wait>(
     rt: &R,
-    bench: &mut Bench,
-    line: TraceLine,
+    mut bench: Bench<'p>,
+    line: &'p TraceLine,
     draws: &mut Draws,
     workers: u32,
-) -> Result<(), RowStop>
+) -> Result<Bench<'p>, RowStop>
     requires workers { (0 < workers) × (workers ≤ 128) }
-    requires stands { Stands bench.old }
-    ensures { OnOk result (Stands bench.new) }
+    requires stands { Stands bench }
+    ensures { IfOk result Stands }
 {
     bench.take(rt, line)?;
+    if matches!(line.kind, LineKind::Fence) {
+        return bench.close(rt, true);
+    }
     for _ in 0..draws.draw(6) {
         bench.turn(rt, draws.draw(workers) as u8)?;
     }
-    Ok(())
+    Ok(bench)
 }
 
-// An epoch of lines.
-fn play_epoch<R: Wait>(
+// The lines of a drawn trace, with drawn turns behind each.
+fn play_lines<'p, R: Wait>(
     rt: &R,
     alloc: Global,
-    bench: &mut Bench,
-    maker: &mut Maker,
+    setup: Setup,
+    lines: &'p [TraceLine],
     draws: &mut Draws,
-    workers: u32,
-) -> Result<(), RowStop>
-    requires workers { (0 < workers) × (workers ≤ 128) }
-    requires stands { Stands bench.old }
-    ensures { OnOk result (Stands bench.new) }
+) -> Result<Told, RowStop>
+    requires { IsGateway setup }
 {
-    for _ in 0..LINES {
-        let Some(line) = made_line(alloc, maker)? else {
-            continue;
-        };
-        play_line(rt, bench, line, draws, workers)?;
+    let mut bench = Bench::new(alloc, setup, draws.draw(3))?;
+    let workers = u32::from(setup.slices) * 2;
+    for line in lines {
+        bench = play_line(rt, bench, line, draws, workers)?;
     }
-    bench.fence(rt)
+    bench.end(rt, lines, true)
 }
 
 // Whether an audit confirms the report of the trace and turns of a seed.
@@ -76,19 +94,8 @@ fn play_drawn<R: Wait>(rt: &R, alloc: Global, seed: u64) -> Result<bool, RowStop
     let setup = drawn_setup(&mut draws);
     let subscribers = draws.draw(4) + 1;
     let mut maker = Maker::new(seed, subscribers, 40);
-    let mut bench = Bench::new(alloc, setup, draws.draw(3))?;
-    for _ in 0..EPOCHS {
-        play_epoch(
-            rt,
-            alloc,
-            &mut bench,
-            &mut maker,
-            &mut draws,
-            u32::from(setup.slices) * 2,
-        )?;
-        bench = bench.close(rt, true)?;
-    }
-    Ok(bench.end(rt, true)?.is_lawful())
+    let made = drawn_lines(alloc, &mut maker)?;
+    Ok(play_lines(rt, alloc, setup, made.as_slice(), &mut draws)?.is_lawful())
 }
 
 /// Plays so many drawn traces, and tells of how many reports an audit says yes.

@@ -13,23 +13,25 @@ ghost use Rattle.check_fronts.specs.Stands.{Stands};
 mod bench;
 mod drawing;
 mod entries;
+mod lines;
 mod rows;
 mod stop;
 mod workers;
 
 use bench::Bench;
 use drawing::play_made;
+use lines::lines_of;
 use rows::{FrontRun, Row, row_of};
-use std::alloc::{AllocError, Global};
+use std::alloc::Global;
 use std::io::{self, Read, Write};
 use std::process::ExitCode;
 use std::sync::Wait;
 use stop::RowStop;
 use text_fields::{Text, cut};
-use trace_lines::LineKind;
+use trace_lines::{LineKind, TraceLine};
 
 // Turns workers one after another.
-fn turn_all<R: Wait>(rt: &R, bench: &mut Bench, workers: &[u8]) -> Result<(), RowStop>
+fn turn_all<R: Wait>(rt: &R, bench: &mut Bench<'_>, workers: &[u8]) -> Result<(), RowStop>
     requires { Stands bench.old }
     ensures { OnOk result (Stands bench.new) }
 {
@@ -40,58 +42,47 @@ fn turn_all<R: Wait>(rt: &R, bench: &mut Bench, workers: &[u8]) -> Result<(), Ro
 }
 
 // A line, and the turns behind it.
-fn play_line<R: Wait>(
+fn play_line<'p, R: Wait>(
     rt: &R,
-    mut bench: Bench,
-    octets: &[u8],
+    mut bench: Bench<'p>,
+    line: &'p TraceLine,
     run: &FrontRun,
-) -> Result<Bench, RowStop>
+) -> Result<Bench<'p>, RowStop>
     requires { Stands bench }
     ensures { IfOk result Stands }
 {
-    let line = bench.read(octets)?;
-    let fence = matches!(line.kind, LineKind::Fence);
     bench.take(rt, line)?;
     turn_all(rt, &mut bench, run.turns.as_slice())?;
-    if fence {
+    if matches!(line.kind, LineKind::Fence) {
         return bench.close(rt, run.places);
     }
     Ok(bench)
 }
 
-// The lines of a text.
-fn pieces_of(alloc: Global, text: &[u8]) -> Result<Vec<&[u8]>, AllocError> {
-    let mut lines = Vec::new(alloc);
-    for line in text.split(|octet| *octet == b'\n') {
-        if !line.is_empty() {
-            lines.push(line)?;
-        }
-    }
-    Ok(lines)
-}
-
-// A trace, from its row to what is found of its report.
-fn play_lines<R: Wait>(
+// The lines of a trace, from its row to what is found of its report.
+fn play_lines<'p, R: Wait>(
     rt: &R,
     alloc: Global,
     run: &FrontRun,
-    lines: &[u8],
+    lines: &'p [TraceLine],
     text: &mut Text,
 ) -> Result<(), RowStop>
     requires { IsGateway run.now.setup }
 {
-    let lines = pieces_of(alloc, lines)?;
     let mut bench = Bench::new(alloc, run.setup, run.patience)?;
-    for octets in lines.as_slice() {
-        bench = play_line(rt, bench, octets, run)?;
+    for line in lines {
+        bench = play_line(rt, bench, line, run)?;
     }
-    bench.end(rt, run.places)?.push(text)
+    bench.end(rt, lines, run.places)?.push(text)
 }
 
 fn play<R: Wait>(rt: &R, alloc: Global, block: &[u8], text: &mut Text) -> Result<(), RowStop> {
     let (head, lines) = cut(b'\n', block);
     match row_of(alloc, head)? {
-        Row::Run(run) => play_lines(rt, alloc, &run, lines.unwrap_or(&[]), text),
+        Row::Run(run) => {
+            let read = lines_of(alloc, lines.unwrap_or(&[]))?;
+            play_lines(rt, alloc, &run, read.as_slice(), text)
+        }
         Row::Made { seed, runs } => play_made(rt, alloc, seed, runs, text),
     }
 }

@@ -1,5 +1,5 @@
 //! What stands before a trace.
-ghost use Rattle.std.specs.Prelude.{◌≡◌, ◌≤◌, IfOk};
+ghost use Rattle.std.specs.Prelude.{IfOk};
 ghost use Rattle.check_fronts.specs.Benches.{IsGateway};
 ghost use Rattle.check_fronts.specs.Rows.{IsRow};
 

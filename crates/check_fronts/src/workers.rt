@@ -29,7 +29,7 @@ pub fn turn_control<R: Wait>(
 /// A turn of the worker of data halves at a slice.
 pub fn turn_data<R: Wait>(
     rt: &R,
-    workers: &mut Vec<DataWorker<DataHalf>>,
+    workers: &mut Vec<DataWorker<DataHalf<'_>>>,
     slice: usize,
 ) -> Result<(), RowStop>
     ensures lanes { map data_worker.worker_lanes workers.new.items ≡ map data_worker.worker_lanes workers.old.items }
@@ -59,15 +59,15 @@ pub fn control_ends(
 }
 
 /// The ends of workers of data halves, in the same order.
-pub fn data_ends(
+pub fn data_ends<'p>(
     alloc: Global,
-    mut workers: Vec<DataWorker<DataHalf>>,
-) -> Result<Vec<DataEnd<DataHalf>>, AllocError>
+    mut workers: Vec<DataWorker<DataHalf<'p>>>,
+) -> Result<Vec<DataEnd<DataHalf<'p>>>, AllocError>
     ensures lanes { IfOk result (λ ends. map data_worker.end_lanes ends.items
-        ≡ map data_worker.worker_lanes workers.items) }
-    ensures places { IfOk result (λ ends. slices_served ends.items ≡ map data_worker.place_of workers.items) }
+        ≡ map data_worker.worker_lanes workers.entry.items) }
+    ensures places { IfOk result (λ ends. slices_served ends.items ≡ map data_worker.place_of workers.entry.items) }
 {
-    let mut ends = Vec::new(alloc);
+    let mut ends: Vec<DataEnd<DataHalf<'p>>> = Vec::new(alloc);
     workers.reverse();
     while let Some(worker) = workers.pop() {
         ends.push(worker.into_end())?;

@@ -9,10 +9,10 @@ ghost use Rattle.split_record.specs.Props.{accepted_prop};
 use crate::meaning::meant_by;
 use crate::patience::{OrderStop, again};
 use control_half::{BoxedCommand, ControlHalf};
-use counter_half::{DataHalf, DataItem};
-use demux::Meant;
+use counter_half::{DataHalf, DataItem, SentPacket};
+use demux::{LentPacket, Meant};
 use lane_core::Full;
-use pc_base::{Packet, SliceNo, Slot};
+use pc_base::{SliceNo, Slot};
 use split_record::{Finished, FrontEnd, NoMemory, RecordParts, finish, split};
 use std::alloc::Global;
 use std::sync::Wait;
@@ -29,11 +29,11 @@ pub const ROOM: u32 = 4;
 /// The parts of a split subscriber, the packets that were accepted and not handled yet, and the moment of the last
 /// one; and how often it moved. What it was given meets what `finish` asks.
 #[derive(Drop)]
-struct HalfBench {
+struct HalfBench<'p> {
     front: FrontEnd,
     control: ControlHalf,
-    data_half: DataHalf,
-    left: Vec<DataItem>,
+    data_half: DataHalf<'p>,
+    left: Vec<DataItem<'p>>,
     last: u64,
     moves: u8,
     ghost one: { AreOfOneSplit front control data_half },
@@ -44,7 +44,7 @@ struct HalfBench {
 }
 
 // No packets, with room for those of a trace.
-fn new_left(alloc: Global) -> Result<Vec<DataItem>, NoMemory>
+fn new_left<'p>(alloc: Global) -> Result<Vec<DataItem<'p>>, NoMemory>
     ensures { IfOk result (λ made. made.items ≡ []) }
 {
     for _ in 0..2 {
@@ -68,7 +68,7 @@ fn new_record(alloc: Global) -> Result<Subscriber, NoMemory>
 }
 
 // A new subscriber, split. Out of memory, the record is as before, and is split again.
-fn new_parts(alloc: Global) -> Result<(FrontEnd, ControlHalf, DataHalf), OrderStop>
+fn new_parts<'p>(alloc: Global) -> Result<(FrontEnd, ControlHalf, DataHalf<'p>), OrderStop>
     ensures one { IfOk result (λ parts. AreOfOneSplit parts.0 parts.1 parts.2) }
     ensures packets { IfOk result (λ parts. parts.0.packets ≡ (start_of parts.0).packets) }
     ensures hop { IfOk result (λ parts. parts.0.hop ≡ 0) }
@@ -86,9 +86,9 @@ fn new_parts(alloc: Global) -> Result<(FrontEnd, ControlHalf, DataHalf), OrderSt
     }
 }
 
-impl HalfBench {
+impl<'p> HalfBench<'p> {
     // A new subscriber, over lanes of that room.
-    fn new(alloc: Global) -> Result<HalfBench, OrderStop> {
+    fn new(alloc: Global) -> Result<HalfBench<'p>, OrderStop> {
         let left = new_left(alloc)?;
         let (front, control, data_half) = new_parts(alloc)?;
         Ok(HalfBench {
@@ -106,7 +106,7 @@ impl HalfBench {
         &mut self,
         rt: &R,
         alloc: Global,
-        lines: Vec<Meant<'_>>,
+        lines: Vec<Meant<'p>>,
         order: &str,
     ) -> Result<(), OrderStop> {
         self.give_all(rt, alloc, lines)?;
@@ -120,7 +120,7 @@ impl HalfBench {
         &mut self,
         rt: &R,
         alloc: Global,
-        lines: Vec<Meant<'_>>,
+        lines: Vec<Meant<'p>>,
     ) -> Result<(), OrderStop> {
         let mut line = 0u64;
         for meant in lines {
@@ -135,17 +135,14 @@ impl HalfBench {
         rt: &R,
         alloc: Global,
         line: u64,
-        meant: Meant<'_>,
+        meant: Meant<'p>,
     ) -> Result<(), OrderStop> {
         match meant {
             Meant::Command { command, .. } => {
                 let command = again(|| BoxedCommand::of(alloc, command.try_clone()?))?;
                 self.give_command(rt, line, command)
             }
-            Meant::Packet { packet, .. } => {
-                let packet = again(|| packet.numbered(alloc, 0))?;
-                self.give_packet(line, packet)
-            }
+            Meant::Packet { packet, .. } => self.give_packet(line, sent_of(packet)),
             Meant::Move { .. } => self.move_on(),
             Meant::Note(_) => Err(OrderStop::Trace),
         }
@@ -161,13 +158,13 @@ impl HalfBench {
     }
 
     // Room for its item was made at the start.
-    fn give_packet(&mut self, line: u64, packet: Packet) -> Result<(), OrderStop> {
+    fn give_packet(&mut self, line: u64, packet: SentPacket<'p>) -> Result<(), OrderStop> {
         let moment = packet.moment.0;
         if moment < self.last || self.front.packets() > 100 {
             return Err(OrderStop::Trace);
         }
         self.left.reserve(1)?;
-        let item = self.front.packet_item(line, false, packet);
+        let item = self.front.packet_item(line, packet);
         self.left.push_reserved(item);
         self.front.accepted();
         self.last = moment;
@@ -234,7 +231,7 @@ impl HalfBench {
         Ok(())
     }
 
-    fn finish<R: Wait>(self, rt: &R, alloc: Global) -> Result<Finished, OrderStop> {
+    fn finish<R: Wait>(self, rt: &R, alloc: Global) -> Result<Finished<'p>, OrderStop> {
         let HalfBench {
             front,
             control,
@@ -249,8 +246,18 @@ impl HalfBench {
     }
 }
 
+// The packet before it has a number, where it lies.
+fn sent_of<'p>(packet: LentPacket<'p>) -> SentPacket<'p> {
+    SentPacket {
+        number: 0,
+        moment: packet.moment,
+        way: packet.way,
+        ip: packet.ip,
+    }
+}
+
 // Goes on until memory is there, at most twice more.
-fn finished<R: Wait>(rt: &R, parts: RecordParts) -> Result<Finished, OrderStop> {
+fn finished<'p, R: Wait>(rt: &R, parts: RecordParts<'p>) -> Result<Finished<'p>, OrderStop> {
     match parts.again(rt) {
         Ok(finished) => Ok(finished),
         Err(parts) => match parts.again(rt) {
@@ -261,12 +268,12 @@ fn finished<R: Wait>(rt: &R, parts: RecordParts) -> Result<Finished, OrderStop> 
 }
 
 /// What the lines mean is given to a new subscriber; then come the steps of an order, and the end.
-pub fn ended<R: Wait>(
+pub fn ended<'p, R: Wait>(
     rt: &R,
     alloc: Global,
-    lines: &[TraceLine],
+    lines: &'p [TraceLine],
     order: &str,
-) -> Result<Finished, OrderStop> {
+) -> Result<Finished<'p>, OrderStop> {
     let meant = again(|| meant_by(alloc, lines))?;
     let mut bench = HalfBench::new(alloc)?;
     match bench.play(rt, alloc, meant, order) {

@@ -5,7 +5,7 @@ use counter_half::{PacketDone, VersionDone};
 use demux::Meant;
 use pc_base::Slot;
 use report_lines::{
-    Entry, push_answer, push_effect, push_judged, push_note, push_open, push_row, read,
+    Entry, push_answer, push_effect, push_note, push_open, push_packet, push_row, read,
 };
 use split_record::{Finished, NoMemory};
 use std::alloc::Global;
@@ -29,10 +29,17 @@ fn push_commands(text: &mut Text, line: u64, all: &[CommandDone]) -> Result<(), 
     Ok(())
 }
 
-fn push_packets(text: &mut Text, line: u64, all: &[PacketDone]) -> Result<(), NoMemory> {
+fn push_packets(text: &mut Text, line: u64, all: &[PacketDone<'_>]) -> Result<(), NoMemory> {
     for done in all {
         if done.line == line {
-            push_judged(text, line, SLOT, done.number, done.commands, &done.verdict)?;
+            push_packet(
+                text,
+                line,
+                SLOT,
+                done.number,
+                done.commands,
+                done.verdict.lent(),
+            )?;
             end_line(text)?;
         }
     }
@@ -45,7 +52,7 @@ fn push_line(
     text: &mut Text,
     line: u64,
     meant: &Meant<'_>,
-    finished: &Finished,
+    finished: &Finished<'_>,
 ) -> Result<(), NoMemory> {
     match meant {
         Meant::Command { .. } => push_commands(text, line, finished.commands.as_slice()),
@@ -61,7 +68,7 @@ fn push_lines(
     alloc: Global,
     text: &mut Text,
     lines: &[TraceLine],
-    finished: &Finished,
+    finished: &Finished<'_>,
 ) -> Result<(), NoMemory> {
     let mut line = 0u64;
     for meant in &meant_by(alloc, lines)? {
@@ -98,7 +105,7 @@ fn push_opens(text: &mut Text, record: &Subscriber) -> Result<(), NoMemory> {
 pub fn report_of(
     alloc: Global,
     lines: &[TraceLine],
-    finished: &Finished,
+    finished: &Finished<'_>,
 ) -> Result<Vec<u8>, NoMemory> {
     let mut text = Text::new(alloc);
     push_lines(alloc, &mut text, lines, finished)?;

@@ -98,7 +98,7 @@ fn push_cut(
     Ok(())
 }
 
-fn push_counts(alloc: Global, text: &mut Text, finished: &Finished) -> Result<(), NoMemory> {
+fn push_counts(alloc: Global, text: &mut Text, finished: &Finished<'_>) -> Result<(), NoMemory> {
     let commands = format!(in alloc; "{}", finished.record.commands())?;
     text.extend_from_slice(commands.as_bytes())?;
     text.extend_from_slice(b" commands,")?;
@@ -126,7 +126,7 @@ pub fn told(
     name: &str,
     order: &str,
     lines: &[TraceLine],
-    finished: &Finished,
+    finished: &Finished<'_>,
 ) -> Result<Text, NoMemory> {
     let report = report_of(alloc, lines, finished)?;
     let mut text = Text::new(alloc);

@@ -4,27 +4,23 @@ use crate::step::ScriptStep;
 use bearer_state::{Ask, Asks, Qos, Session, Version};
 use control_half::Batch;
 use control_steps::{Command, CommandKind, step};
-use counter_half::{DataHalf, DataItem, DataRest, HalfState, PacketDone};
+use counter_half::{DataHalf, DataItem, DataRest, HalfState, PacketDone, SentPacket};
+use ipv4_packet::Ip4;
 use lane_core::{NoMemory, Sender, lane};
-use packet_steps::Counters;
-use pc_base::{
-    Addr4, Effect, Fate, Kbps, Moment, Octets, Packet, Peer, Place, SliceNo, Slot, Teid, Verdict,
-    Way,
-};
+use packet_steps::{Counters, LentVerdict, gpdu};
+use pc_base::{Addr4, Effect, Fate, Kbps, Moment, Octets, Peer, Place, SliceNo, Slot, Teid, Way};
 use std::alloc::Global;
 use std::sync::Wait;
 use text_fields::Text;
 
 // 28 octets of UDP from 203.0.113.9, port 5060, to 10.45.0.2.
-const DOWN: [u8; 28] = [
-    0x45, 0, 0, 28, 0, 0, 0, 0, 64, 17, 0, 0, 203, 0, 113, 9, 10, 45, 0, 2, 0x13, 0xc4, 0x27, 0x10,
-    0, 8, 0, 0,
-];
+const DOWN: &[u8] =
+    b"\x45\0\0\x1c\0\0\0\0\x40\x11\0\0\xcb\0\x71\x09\x0a\x2d\0\x02\x13\xc4\x27\x10\0\x08\0\0";
 
 /// A half, the far end of its lane, and the session whose versions are sent there.
 #[derive(Drop)]
 pub struct CountBench {
-    half: DataHalf,
+    half: DataHalf<'static>,
     versions: Sender<Batch<Version>>,
     session: Session,
     number: u64,
@@ -129,28 +125,30 @@ impl CountBench {
     }
 
     // The next packet down. It is ten lines behind its number.
-    fn item(&self, alloc: Global, floor: u32, moment: u32) -> Result<DataItem, StepStop> {
+    fn item(&self, floor: u32, moment: u32) -> Result<DataItem<'static>, StepStop> {
         let number = self.packets;
         if number > 100 {
             return Err(StepStop::Step);
         }
+        let Some(ip) = Ip4::whole(DOWN) else {
+            return Err(StepStop::Step);
+        };
         Ok(DataItem {
             slot: Slot(0),
             number,
             floor: u64::from(floor),
             line: number + 10,
-            parked: false,
-            packet: Packet {
+            packet: SentPacket {
                 number,
                 moment: Moment(u64::from(moment)),
                 way: Way::Down,
-                octets: Octets::of(Vec::from_slice(alloc, &DOWN)?),
+                ip,
             },
         })
     }
 
     // Handles the next packet at slice 1, if it may; whether it does.
-    fn handle(&mut self, item: &DataItem) -> Result<bool, NoMemory> {
+    fn handle(&mut self, item: &DataItem<'static>) -> Result<bool, NoMemory> {
         if !self.half.may_handle(item) {
             return Ok(false);
         }
@@ -189,7 +187,7 @@ impl CountBench {
                 push_word(text, if took { b"ok" } else { b"full" })
             }
             b'm' => {
-                let item = self.item(alloc, step.one, 0)?;
+                let item = self.item(step.one, 0)?;
                 push_yes(text, self.half.may_handle(&item))
             }
             b'l' if step.one > 0 => {
@@ -197,7 +195,7 @@ impl CountBench {
                 push_yes(text, learnt)
             }
             b'p' => {
-                let item = self.item(alloc, step.one, step.two)?;
+                let item = self.item(step.one, step.two)?;
                 let handled = self.handle(&item)?;
                 push_word(text, if handled { b"ok" } else { b"waits" })
             }
@@ -210,18 +208,18 @@ impl CountBench {
     pub fn end(self, alloc: Global) -> Result<Text, StepStop> {
         let mut text = Text::new(alloc);
         let rest = self.half.into_rest();
-        push_rest(&mut text, &rest)?;
+        push_rest(alloc, &mut text, &rest)?;
         Ok(text)
     }
 }
 
-fn push_rest(text: &mut Text, rest: &DataRest) -> Result<(), NoMemory> {
+fn push_rest(alloc: Global, text: &mut Text, rest: &DataRest<'_>) -> Result<(), NoMemory> {
     let state = &rest.state;
     text.push_number(state.met)?;
     text.push_number(state.done)?;
     push_floor(text, &rest.batch)?;
     push_last(text, state)?;
-    push_notes(text, state)?;
+    push_notes(alloc, text, state)?;
     push_effects(text, state)
 }
 
@@ -232,7 +230,7 @@ fn push_floor(text: &mut Text, batch: &Option<Batch<Version>>) -> Result<(), NoM
     }
 }
 
-fn push_last(text: &mut Text, state: &HalfState) -> Result<(), NoMemory> {
+fn push_last(text: &mut Text, state: &HalfState<'_>) -> Result<(), NoMemory> {
     match state.counters.last() {
         Some(moment) => text.push_number(moment.0),
         None => text.push_field(b"-"),
@@ -246,10 +244,12 @@ fn push_down(text: &mut Text, word: &[u8], life: u64, octets: &Octets) -> Result
     text.push_octets(octets.as_slice())
 }
 
-fn push_verdict(text: &mut Text, verdict: &Verdict) -> Result<(), NoMemory> {
+fn push_verdict(alloc: Global, text: &mut Text, verdict: &LentVerdict<'_>) -> Result<(), NoMemory> {
     match verdict {
-        Verdict::Down { life, octets, .. } => push_down(text, b"down", *life, octets),
-        Verdict::Held { life, .. } => {
+        LentVerdict::Down { life, peer, octets } if octets.len() < 0x1_0000 => {
+            push_down(text, b"down", *life, &gpdu(alloc, *peer, octets)?)
+        }
+        LentVerdict::Held { life, .. } => {
             text.push_field(b"held")?;
             text.push_number(*life)
         }
@@ -272,14 +272,14 @@ fn push_effect(text: &mut Text, effect: &Effect) -> Result<(), NoMemory> {
     }
 }
 
-fn push_notes(text: &mut Text, state: &HalfState) -> Result<(), NoMemory> {
+fn push_notes(alloc: Global, text: &mut Text, state: &HalfState<'_>) -> Result<(), NoMemory> {
     for note in state.notes.as_slice() {
-        push_note(text, note)?;
+        push_note(alloc, text, note)?;
     }
     Ok(())
 }
 
-fn push_note(text: &mut Text, note: &PacketDone) -> Result<(), NoMemory> {
+fn push_note(alloc: Global, text: &mut Text, note: &PacketDone<'_>) -> Result<(), NoMemory> {
     text.push(b';')?;
     text.push_number(note.line)?;
     text.push_number(note.number)?;
@@ -289,10 +289,10 @@ fn push_note(text: &mut Text, note: &PacketDone) -> Result<(), NoMemory> {
         Place::At(_) => b"@another",
         Place::Closing => b"@closing",
     })?;
-    push_verdict(text, &note.verdict)
+    push_verdict(alloc, text, note.verdict.lent())
 }
 
-fn push_effects(text: &mut Text, state: &HalfState) -> Result<(), NoMemory> {
+fn push_effects(text: &mut Text, state: &HalfState<'_>) -> Result<(), NoMemory> {
     for done in state.effects.as_slice() {
         for effect in done.effects.as_slice() {
             text.push(b';')?;

@@ -1,5 +1,5 @@
 //! A side of halves to which items come, and the workers of its three slices.
-ghost use Rattle.std.specs.Prelude.{◌≡◌, ◌≤◌, [], ◌∷◌};
+ghost use Rattle.std.specs.Prelude.{◌≡◌, [], ◌∷◌};
 ghost use Rattle.worker_core.specs.DataWorkers.{worker_lanes};
 ghost use Rattle.worker_core.specs.Desks.{lanes_of};
 ghost use Rattle.migration.specs.DataWords.{desks_of};
@@ -99,7 +99,7 @@ impl Stream {
             floor: u64::from(step.three),
         };
         match self.side.give(rt, task) {
-            Ok(()) => b"ok",
+            Ok(_) => b"ok",
             Err(DataNo::Full(_)) => b"full",
             Err(DataNo::NoMemory(_)) => b"memory",
         }

@@ -1,6 +1,6 @@
 //! A lane of numbers.
-ghost use Rattle.std.specs.Prelude.{◌≡◌, ◌≤◌, ◌<◌, ◌+◌, ◌^◌, length};
-ghost use Rattle.lane_core.specs.Ends.{sender_lane, receiver_lane, sent};
+ghost use Rattle.std.specs.Prelude.{◌≡◌, ◌<◌};
+ghost use Rattle.lane_core.specs.Ends.{sender_lane, receiver_lane};
 
 use crate::answers::{StepStop, numbers, push_numbers, word_of, yes_or_no};
 use crate::step::ScriptStep;

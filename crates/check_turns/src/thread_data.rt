@@ -14,7 +14,7 @@ use std::alloc::Global;
 use std::snapshot::Snapshot;
 use std::sync::Wait;
 use std::thread::{self, Promise, Scope, Threads};
-use worker_core::{DataEnd, DataWorker, data_pair};
+use worker_core::{DataDesk, DataEnd, DataWorker, data_pair};
 
 const SLICE: SliceNo = SliceNo(0);
 
@@ -45,15 +45,15 @@ pub struct DataCame {
 
 /// An end of this worker has its lanes.
 #[derive(Drop)]
-struct EndOf(Snapshot<DataWorker<DataHalf>>);
+struct EndOf<'p>(Snapshot<DataWorker<DataHalf<'p>>>);
 
-impl Promise<DataEnd<DataHalf>> for EndOf {
+impl<'p> Promise<DataEnd<DataHalf<'p>>> for EndOf<'p> {
     ghost kept_by = { λ promise end. end_lanes end ≡ worker_lanes promise.0.value };
 }
 
 // Some turns of a worker, and its end.
-fn serve<R: Wait>(rt: &R, mut worker: DataWorker<DataHalf>) -> DataEnd<DataHalf>
-    ensures { end_lanes result ≡ worker_lanes worker }
+fn serve<'p, R: Wait>(rt: &R, mut worker: DataWorker<DataHalf<'p>>) -> DataEnd<DataHalf<'p>>
+    ensures { end_lanes result ≡ worker_lanes worker.entry }
 {
     for _ in 0..TURNS {
         if worker.turn(rt).is_err() {
@@ -64,12 +64,14 @@ fn serve<R: Wait>(rt: &R, mut worker: DataWorker<DataHalf>) -> DataEnd<DataHalf>
 }
 
 // The same in a thread; where none can be started, here.
-fn serve_in<'s, E, R: Threads + Wait + Sync>(
+fn serve_in<'p, 's, E, R: Threads + Wait + Sync>(
     scope: &Scope<'s, E>,
     rt: &'s R,
-    worker: DataWorker<DataHalf>,
-) -> DataEnd<DataHalf>
-    ensures { end_lanes result ≡ worker_lanes worker }
+    worker: DataWorker<DataHalf<'p>>,
+) -> DataEnd<DataHalf<'p>>
+where
+    'p: 's,
+    ensures { end_lanes result ≡ worker_lanes worker.entry }
 {
     let promise = EndOf(Snapshot::of(&worker));
     let turns = move || serve(rt, worker);
@@ -79,33 +81,36 @@ fn serve_in<'s, E, R: Threads + Wait + Sync>(
     }
 }
 
-fn serve_there<R: Threads + Wait + Sync>(rt: &R, worker: DataWorker<DataHalf>) -> DataEnd<DataHalf>
-    ensures { end_lanes result ≡ worker_lanes worker }
+fn serve_there<'p, R: Threads + Wait + Sync>(
+    rt: &'p R,
+    worker: DataWorker<DataHalf<'p>>,
+) -> DataEnd<DataHalf<'p>>
+    ensures { end_lanes result ≡ worker_lanes worker.entry }
 {
     thread::scope(
         thread::scope_env(),
         rt,
-        |scope| -> DataEnd<DataHalf>
-            ensures { end_lanes result ≡ worker_lanes worker }
+        |scope| -> DataEnd<DataHalf<'_>>
+            ensures { end_lanes result ≡ worker_lanes worker.entry }
         { serve_in(scope, rt, worker) },
     )
 }
 
 /// A side with one slice, and the worker there.
 #[derive(Drop)]
-struct Path {
-    side: DataSide<DataHalf>,
-    worker: DataWorker<DataHalf>,
+struct Path<'p> {
+    side: DataSide<DataHalf<'p>>,
+    worker: DataWorker<DataHalf<'p>>,
     ghost lanes: { lanes_of (desks_of side) ≡ worker_lanes worker ∷ [] },
 }
 
-impl Path {
+impl<'p> Path<'p> {
     // Sends the half to the slice.
-    fn sent<R: Wait>(rt: &R, alloc: Global, half: DataHalf) -> Result<Path, ThreadStop>
+    fn sent<R: Wait>(rt: &R, alloc: Global, half: DataHalf<'p>) -> Result<Path<'p>, ThreadStop>
         requires { handled_by half ≡ [] }
     {
-        let (desk, worker) = data_pair(alloc, SLICE, 16)?;
-        let desks = Vec::from_array(alloc, [desk])?;
+        let (desk, worker) = data_pair::<DataHalf<'p>>(alloc, SLICE, 16)?;
+        let desks: Vec<DataDesk<DataHalf<'p>>> = Vec::from_array(alloc, [desk])?;
         let mut side = DataSide::new(alloc, desks, QUEUE);
         match side.admit(rt, half, SLICE, false) {
             Ok(()) => Ok(Path { side, worker }),
@@ -114,7 +119,7 @@ impl Path {
     }
 
     // Sends an item behind it; whether it went.
-    fn give<R: Wait>(&mut self, rt: &R, item: DataItem) -> bool {
+    fn give<R: Wait>(&mut self, rt: &R, item: DataItem<'p>) -> bool {
         if !self.side.is_admitted(item.slot) || self.side.asked() > 8 {
             return false;
         }
@@ -122,7 +127,7 @@ impl Path {
     }
 
     // Gives all of these, as far as they are accepted.
-    fn give_all<R: Wait>(&mut self, rt: &R, items: Vec<DataItem>) {
+    fn give_all<R: Wait>(&mut self, rt: &R, items: Vec<DataItem<'p>>) {
         for item in items {
             self.give(rt, item);
         }
@@ -138,9 +143,9 @@ impl Path {
     // Calls the half back and gives more items, turns it at the slice, sends it there again, and gathers it.
     fn home<R: Threads + Wait + Sync>(
         mut self,
-        rt: &R,
+        rt: &'p R,
         alloc: Global,
-        more: Vec<DataItem>,
+        more: Vec<DataItem<'p>>,
     ) -> Result<DataCame, ThreadStop> {
         let parks = self.side.parks(Slot(0));
         self.call_back(rt);
@@ -163,15 +168,15 @@ impl Path {
     }
 }
 
-fn gathered<R: Wait>(
+fn gathered<'p, R: Wait>(
     rt: &R,
     alloc: Global,
-    side: DataSideEnd<DataHalf>,
-    end: DataEnd<DataHalf>,
+    side: DataSideEnd<DataHalf<'p>>,
+    end: DataEnd<DataHalf<'p>>,
 ) -> Result<Homes, ThreadStop>
     requires { lanes_of side.desks.items ≡ end_lanes end ∷ [] }
 {
-    let ends = Vec::from_array(alloc, [end])?;
+    let ends: Vec<DataEnd<DataHalf<'p>>> = Vec::from_array(alloc, [end])?;
     match gather_data(rt, alloc, side, ends) {
         Ok(homes) => Ok(counted(&homes)),
         Err(parts) => match parts.again(rt) {
@@ -181,7 +186,7 @@ fn gathered<R: Wait>(
     }
 }
 
-fn counted(homes: &[Home<DataHalf>]) -> Homes {
+fn counted(homes: &[Home<DataHalf<'_>>]) -> Homes {
     let left = match homes.first() {
         Some(home) => home.left.len(),
         None => 0,
@@ -194,12 +199,12 @@ fn counted(homes: &[Home<DataHalf>]) -> Homes {
 
 /// Sends the half to a slice and an item behind it, calls it back while more items come, turns it there, and gathers
 /// it.
-pub fn data_home<R: Threads + Wait + Sync>(
-    rt: &R,
+pub fn data_home<'p, R: Threads + Wait + Sync>(
+    rt: &'p R,
     alloc: Global,
-    half: DataHalf,
-    item: DataItem,
-    more: Vec<DataItem>,
+    half: DataHalf<'p>,
+    item: DataItem<'p>,
+    more: Vec<DataItem<'p>>,
 ) -> Result<DataCame, ThreadStop>
     requires { handled_by half ≡ [] }
 {

@@ -5,8 +5,9 @@ ghost use Rattle.counter_half.specs.Half.{handled_by};
 use crate::thread_stop::ThreadStop;
 use control_half::{BoxedCommand, ControlHalf};
 use control_steps::{Command, CommandKind};
-use counter_half::{DataHalf, DataItem};
-use pc_base::{Addr4, Kbps, Moment, Octets, Packet, Peer, SliceNo, Slot, Teid, Way};
+use counter_half::{DataHalf, DataItem, SentPacket};
+use ipv4_packet::Ip4;
+use pc_base::{Addr4, Kbps, Moment, Peer, SliceNo, Slot, Teid, Way};
 use split_record::{FrontEnd, split};
 use std::alloc::Global;
 use std::sync::Wait;
@@ -17,16 +18,20 @@ const MORE: u64 = 5;
 
 /// The halves, and the items of a packet and of those that come behind it.
 #[derive(Drop)]
-pub struct Subject {
+pub struct Subject<'p> {
     pub control: ControlHalf,
-    pub data_half: DataHalf,
-    pub item: DataItem,
-    pub more: Vec<DataItem>,
+    pub data_half: DataHalf<'p>,
+    pub item: DataItem<'p>,
+    pub more: Vec<DataItem<'p>>,
     pub ghost unhandled: { handled_by data_half ≡ [] },
 }
 
-/// An attach, and packets that wait for no command.
-pub fn new_subject<R: Wait>(rt: &R, alloc: Global) -> Result<Subject, ThreadStop> {
+/// An attach, and packets of these octets that wait for no command.
+pub fn new_subject<'p, R: Wait>(
+    rt: &R,
+    alloc: Global,
+    ip: &Ip4<'p>,
+) -> Result<Subject<'p>, ThreadStop> {
     let record = Subscriber::new(alloc, Slot(0), SliceNo(0))?;
     few_events_leave_room();
     let Ok((mut front, control, data_half)) = split(alloc, record, 4, 0) else {
@@ -49,8 +54,8 @@ pub fn new_subject<R: Wait>(rt: &R, alloc: Global) -> Result<Subject, ThreadStop
     let Ok(()) = front.give_command(rt, 1, boxed) else {
         return Err(ThreadStop::Back);
     };
-    let item = front.packet_item(2, false, new_packet(alloc));
-    let more = more_items(alloc, &front)?;
+    let item = front.packet_item(2, new_packet(ip));
+    let more = more_items(alloc, &front, ip)?;
     Ok(Subject {
         control,
         data_half,
@@ -59,19 +64,23 @@ pub fn new_subject<R: Wait>(rt: &R, alloc: Global) -> Result<Subject, ThreadStop
     })
 }
 
-fn new_packet(alloc: Global) -> Packet {
-    Packet {
+fn new_packet<'p>(ip: &Ip4<'p>) -> SentPacket<'p> {
+    SentPacket {
         number: 0,
         moment: Moment(0),
         way: Way::Down,
-        octets: Octets::of(Vec::new(alloc)),
+        ip: ip.copied(),
     }
 }
 
-fn more_items(alloc: Global, front: &FrontEnd) -> Result<Vec<DataItem>, ThreadStop> {
-    let mut items = Vec::new(alloc);
+fn more_items<'p>(
+    alloc: Global,
+    front: &FrontEnd,
+    ip: &Ip4<'p>,
+) -> Result<Vec<DataItem<'p>>, ThreadStop> {
+    let mut items: Vec<DataItem<'p>> = Vec::new(alloc);
     for number in 1..MORE + 1 {
-        let item = front.packet_item(2 + number, true, new_packet(alloc));
+        let item = front.packet_item(2 + number, new_packet(ip));
         items.push(DataItem { number, ..item })?;
     }
     Ok(items)

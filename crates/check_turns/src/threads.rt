@@ -7,12 +7,17 @@ use crate::thread_stop::ThreadStop;
 use crate::thread_subject::new_subject;
 use control_half::ControlHalf;
 use counter_half::DataHalf;
+use ipv4_packet::Ip4;
 use std::alloc::{AllocError as NoMemory, Global};
 use std::mem::size_of;
 use std::sync::Wait;
 use std::thread::Threads;
 use text_fields::Text;
 use worker_core::{DataOrder, Order};
+
+// 28 octets of UDP from 203.0.113.9, port 5060, to 10.45.0.2.
+const DOWN: &[u8] =
+    b"\x45\0\0\x1c\0\0\0\0\x40\x11\0\0\xcb\0\x71\x09\x0a\x2d\0\x02\x13\xc4\x27\x10\0\x08\0\0";
 
 /// How many octets an order has at most: a half is a slot and a pointer, and an item the largest of all.
 const MOST: usize = 96;
@@ -26,7 +31,10 @@ struct HalvesCame {
 
 // What comes of the two halves of a subscriber.
 fn take_through<R: Threads + Wait + Sync>(rt: &R, alloc: Global) -> Result<HalvesCame, ThreadStop> {
-    let subject = new_subject(rt, alloc)?;
+    let Some(ip) = Ip4::whole(DOWN) else {
+        return Err(ThreadStop::Back);
+    };
+    let subject = new_subject(rt, alloc, &ip)?;
     let control = control_home(rt, alloc, subject.control);
     let data_half = data_home(rt, alloc, subject.data_half, subject.item, subject.more);
     Ok(HalvesCame {

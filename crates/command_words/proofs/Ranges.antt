@@ -1,11 +1,11 @@
 -- The numbers of a job are in the ranges of its options.
-use Rattle.std.proofs.Common.{◌≡◌, ◌*◌, ◌<◌, ◌≤◌, ◌&&◌, ℕ, suc, ap, arith, All, length, Bool, true, false, cond, refl, sym, subst, List, [], ◌∷◌, Option, Some, None, IfSome, find, nat_le, leb-true, option_and_then, option_map, codes, lit≤}
+use Rattle.std.proofs.Common.{◌≡◌, ◌*◌, ◌<◌, ◌≤◌, ◌&&◌, ℕ, suc, ap, arith, All, length, Bool, true, false, cond, refl, sym, subst, IsTrue, List, [], ◌∷◌, Option, Some, None, IfSome, find, nat_le, leb-true, option_and_then, option_map, codes, lit≤}
 use Rattle.std.proofs.lemmas.List.Elements.{All-cons, All-nil, All-weaker}
 use Rattle.std.specs.Option.{option_map_or}
 use Rattle.std.specs.Str.Parse.{digits_value}
 use Rattle.text_fields.specs.Fields.{pieces}
 use Rattle.text_fields.specs.Number.{is_decimal, number_in}
-use Rattle.command_words.specs.Job.{Command, IsInRange, LanesInRange, TurnsInRange, audit_job, balance_job, commands, drive_job, has_number, job_of, lanes_audit, lanes_by, lanes_of, make_job, number_of, number_or, replay_job, solo_audit, turns_of}
+use Rattle.command_words.specs.Job.{Command, IsInRange, LanesInRange, TurnsInRange, audit_job, audit_of, balance_job, commands, drive_job, has_number, job_of, lanes_audit, lanes_by, lanes_of, make_job, number_of, number_or, replay_job, solo_audit, solo_lanes, turns_of}
 use Rattle.command_words.specs.Options.{Given, given_once, has_flag, value_of}
 use Rattle.command_words.specs.Turns.{comma, last_worker, most_turns, numbers_in, turns_asked, turns_in}
 use Rattle.command_words.specs.Words.{Text}
@@ -68,14 +68,26 @@ make_keeps given asked is =
         let same : job.Make s m l (has_flag (codes "summary") given) ≡ asked = cc in
         subst IsInRange same ((some m refl).0, (some m refl).1, (few l refl).1)
 
+-- an audit keeps the ranges of its lanes, whether it goes along or not
+audit_within : (given : List Given) (solo : Bool) (lanes : Lanes) → LanesInRange lanes → (IsTrue solo → lanes.slices ≡ 64)
+    → IsInRange (audit_of given solo lanes)
+audit_within given solo lanes range alone = go (has_flag (codes "along") given)
+  where
+    go : (along : Bool) → IsInRange (cond along
+        (job.Along solo lanes.slices lanes.room lanes.lane (has_flag (codes "why") given))
+        (job.Audit solo lanes.slices lanes.room lanes.lane (has_flag (codes "why") given)))
+    go true = (range.0, range.1, alone, range.2, range.3, range.4, range.5)
+    go false = (range.0, range.1, alone, range.2, range.3, range.4, range.5)
+
 solo_keeps : (given : List Given) (asked : Job) → solo_audit given ≡ Some asked → IsInRange asked
 solo_keeps given asked is = go (has_number given) is
   where
-    go : (numbered : Bool) → cond numbered None (Some (job.Audit true 64 64 1024 (has_flag (codes "why") given))) ≡ Some asked → IsInRange asked
+    go : (numbered : Bool) → cond numbered None (Some (audit_of given true solo_lanes)) ≡ Some asked → IsInRange asked
     go true e = absurd (cc)
     go false e =
-        let same : job.Audit true 64 64 1024 (has_flag (codes "why") given) ≡ asked = cc in
-        subst IsInRange same (lit≤ tt, lit≤ tt, (λ yes. refl), lit≤ tt, lit≤ tt, lit≤ tt, lit≤ tt)
+        let same : audit_of given true solo_lanes ≡ asked = cc in
+        subst IsInRange same (audit_within given true solo_lanes
+        (lit≤ tt, lit≤ tt, lit≤ tt, lit≤ tt, lit≤ tt, lit≤ tt) (λ yes. refl))
 
 number_or_within : (least last default : ℕ) (text : Option Text) (n : ℕ) → IsWithin least last default
     → number_or least last default text ≡ Some n → IsWithin least last n
@@ -105,23 +117,13 @@ lanes_keep : (given : List Given) (asked : Job) → lanes_audit given ≡ Some a
 lanes_keep given asked is = go (lanes_of given) refl is
   where
     go : (found : Option Lanes) → lanes_of given ≡ found
-        → option_map (λ (lanes : Lanes). job.Audit false lanes.slices lanes.room lanes.lane
-        (has_flag (codes "why") given)) found ≡ Some asked
-        → IsInRange asked
+        → option_map (audit_of given false) found ≡ Some asked → IsInRange asked
     go None known e = absurd (cc)
     go (Some lanes) known e =
         let range = lanes_within (value_of (codes "slices") given) (value_of (codes "room") given)
         (value_of (codes "lane") given) lanes known in
-        let same : job.Audit false lanes.slices lanes.room lanes.lane (has_flag (codes "why") given) ≡ asked = cc in
-        subst IsInRange same (
-          range.0,
-          range.1,
-          (λ is. absurd (cc)),
-          range.2,
-          range.3,
-          range.4,
-          range.5,
-        )
+        let same : audit_of given false lanes ≡ asked = cc in
+        subst IsInRange same (audit_within given false lanes range (λ is. absurd (cc)))
 
 -- ---- turns
 

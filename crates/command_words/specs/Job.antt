@@ -76,15 +76,22 @@ abbrev pub has_number : List Given → Bool
 has_number given = is_some (value_of (codes "slices") given) || is_some (value_of (codes "room") given)
     || is_some (value_of (codes "lane") given)
 
--- `audit --solo` is of 64 slices, and has no numbers; both tell where a report is refuted, if that is asked for
+-- an audit of a whole report, or one that goes along with it; both tell where a report is refuted, if that is asked for
+abbrev pub audit_of : List Given → Bool → Lanes → Job
+audit_of given solo lanes =
+    if has_flag (codes "along") given
+    then job.Along solo lanes.slices lanes.room lanes.lane (has_flag (codes "why") given)
+    else job.Audit solo lanes.slices lanes.room lanes.lane (has_flag (codes "why") given)
+
+-- `audit --solo` is of 64 slices, and has no numbers
+abbrev pub solo_lanes : Lanes
+solo_lanes = record { slices = 64; room = 64; lane = 1024 }
+
 abbrev pub solo_audit : List Given → Option Job
-solo_audit given =
-    if has_number given then None else Some (job.Audit true 64 64 1024 (has_flag (codes "why") given))
+solo_audit given = if has_number given then None else Some (audit_of given true solo_lanes)
 
 abbrev pub lanes_audit : List Given → Option Job
-lanes_audit given =
-    option_map (λ (lanes : Lanes). job.Audit false lanes.slices lanes.room lanes.lane (has_flag (codes "why") given))
-    (lanes_of given)
+lanes_audit given = option_map (audit_of given false) (lanes_of given)
 
 abbrev pub audit_job : List Given → Option Job
 audit_job given = if has_flag (codes "solo") given then solo_audit given else lanes_audit given
@@ -114,7 +121,7 @@ make_forms = with_value (codes "seed") ∷ with_value (codes "subs") ∷ with_va
 
 abbrev pub audit_forms : List Form
 audit_forms = without_value (codes "solo") ∷ with_value (codes "slices") ∷ with_value (codes "room")
-    ∷ with_value (codes "lane") ∷ without_value (codes "why") ∷ []
+    ∷ with_value (codes "lane") ∷ without_value (codes "along") ∷ without_value (codes "why") ∷ []
 
 abbrev pub balance_forms : List Form
 balance_forms = with_value (codes "slices") ∷ with_value (codes "most") ∷ []
@@ -180,6 +187,9 @@ IsInRange (job.Make seed subs lines summary) = (1 ≤ subs) × (subs ≤ 65533) 
 IsInRange job.Import = Unit {0}
 IsInRange job.Export = Unit {0}
 IsInRange (job.Audit solo slices room lane why) =
+    (1 ≤ slices) × (slices ≤ 64) × (IsTrue solo → slices ≡ 64) × (1 ≤ room) × (room ≤ 256) × (1 ≤ lane)
+    × (lane ≤ 16384)
+IsInRange (job.Along solo slices room lane why) =
     (1 ≤ slices) × (slices ≤ 64) × (IsTrue solo → slices ≡ 64) × (1 ≤ room) × (room ≤ 256) × (1 ≤ lane)
     × (lane ≤ 16384)
 IsInRange (job.Balance slices most) = (1 ≤ slices) × (slices ≤ 64) × (1 ≤ most) × (most ≤ 16)

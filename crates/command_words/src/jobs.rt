@@ -52,6 +52,15 @@ pub enum Job {
         lane: u32,
         why: bool,
     },
+    /// `audit --along`: judge a report as `Audit` does, each piece of it with its piece of the trace, one behind
+    /// another.
+    Along {
+        solo: bool,
+        slices: u8,
+        room: u32,
+        lane: u32,
+        why: bool,
+    },
     /// `balance`: write a trace with moves planned by a report of it, over 1 to 64 slices, at most so many
     /// (1 to 16) behind each `FENCE`.
     Balance {

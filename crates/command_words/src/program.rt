@@ -87,7 +87,9 @@ fn audit<'a>(alloc: Global) -> Result<Command<'a>, AllocError>
     ensures shape { IfOk result (λ command. shape_of command ≡ command_shape audit_command) }
     ensures local { IfOk result (λ command. (fields_of command).has_globals ≡ false) }
 {
-    audit_setup(alloc)?.arg(without_value(alloc, "why"))
+    audit_setup(alloc)?
+        .arg(without_value(alloc, "along"))?
+        .arg(without_value(alloc, "why"))
 }
 
 fn balance<'a>(alloc: Global) -> Result<Command<'a>, AllocError>

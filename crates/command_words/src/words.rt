@@ -1,13 +1,13 @@
 //! From words to a job.
-ghost use Rattle.std.specs.Prelude.{◌≡◌, ◌^◌, ◌<◌, ◌≤◌, ℕ, Some, List, IfOk, IfSome};
+ghost use Rattle.std.specs.Prelude.{◌≡◌, ◌^◌, ◌<◌, ◌≤◌, Some, List, IfOk, IfSome};
 ghost use Rattle.std.specs.Prelude.{bytes_eq, codes, find, is_some, map};
 ghost use Rattle.std.specs.List.{list_any};
 ghost use Rattle.std.specs.Option.{option_map, option_map_or};
 ghost use Rattle.std.specs.String.{string_bytes};
 ghost use Rattle.clap.specs.Words.{first_value, found_of, subcommand_rows_of};
 ghost use Rattle.text_fields.specs.Number.{number_in};
-ghost use Rattle.command_words.specs.Job.{Command, IsInRange, asked_of, audit_forms, audit_job, balance_forms};
-ghost use Rattle.command_words.specs.Job.{balance_job, commands, has_number, job_of};
+ghost use Rattle.command_words.specs.Job.{Command, IsInRange, asked_of, audit_forms, audit_job, audit_of};
+ghost use Rattle.command_words.specs.Job.{balance_forms, balance_job, commands, has_number, job_of};
 ghost use Rattle.command_words.specs.Job.{LanesInRange, drive_forms, drive_job, lanes_audit, lanes_by, make_forms};
 ghost use Rattle.command_words.specs.Job.{make_job, replay_forms, replay_job, solo_audit};
 ghost use Rattle.command_words.specs.Options.{Given};
@@ -117,13 +117,37 @@ fn solo_audit(matches: &ArgMatches<'_>) -> Option<Job>
     if has_number(matches) {
         return None;
     }
-    Some(Job::Audit {
-        solo: true,
+    let lanes = Lanes {
         slices: 64,
         room: 64,
         lane: 1_024,
-        why: matches.get_flag("why"),
-    })
+    };
+    Some(audit_of(matches, true, lanes))
+}
+
+// The audit of a gateway on one thread, or of lanes: of a whole report, or along with it.
+fn audit_of(matches: &ArgMatches<'_>, solo: bool, lanes: Lanes) -> Job
+    ensures { (given : List Given) → Gives matches.now audit_forms given → result ≡ audit_of given solo lanes }
+{
+    let Lanes { slices, room, lane } = lanes;
+    let why = matches.get_flag("why");
+    if matches.get_flag("along") {
+        Job::Along {
+            solo,
+            slices,
+            room,
+            lane,
+            why,
+        }
+    } else {
+        Job::Audit {
+            solo,
+            slices,
+            room,
+            lane,
+            why,
+        }
+    }
 }
 
 fn has_number(matches: &ArgMatches<'_>) -> bool
@@ -145,13 +169,7 @@ fn lanes_audit(matches: &ArgMatches<'_>) -> Option<Job>
     ensures { (given : List Given) → Gives matches.now audit_forms given → result ≡ lanes_audit given }
 {
     let lanes = lanes(matches)?;
-    Some(Job::Audit {
-        solo: false,
-        slices: lanes.slices,
-        room: lanes.room,
-        lane: lanes.lane,
-        why: matches.get_flag("why"),
-    })
+    Some(audit_of(matches, false, lanes))
 }
 
 fn lanes(matches: &ArgMatches<'_>) -> Option<Lanes>

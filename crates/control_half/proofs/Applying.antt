@@ -1,10 +1,10 @@
 -- One command more is applied.
-use Rattle.std.proofs.Common.{◌≡◌, ℕ, ◌+◌, ◌<◌, ◌≤◌, ◌^◌, length, arith, Option, Some, None, List, [], ◌∷◌, ◌++◌, refl}
+use Rattle.std.proofs.Common.{◌≡◌, ℕ, ◌+◌, length, arith, Option, Some, None, List, [], ◌∷◌, ◌++◌, refl}
 use Rattle.std.proofs.Common.{ap, sym, ◌∙◌, subst, append-nil, append_assoc, length-append}
-use Rattle.bearer_state.specs.Session.{SessionState, HasRoom}
+use Rattle.bearer_state.specs.Session.{SessionState}
 use Rattle.control_half.specs.declared.items.CommandItem.{CommandItem}
 use Rattle.control_half.specs.declared.items.CommandDone.{CommandDone}
-use Rattle.control_half.specs.Applied.{HasRoomFor, before_head, KeepsNext, in_due}
+use Rattle.control_half.specs.Applied.{before_head, KeepsNext, in_due}
 use Rattle.control_half.specs.Controlled.{session_behind, stepped, replied, replies_to, leaves, versions_left}
 use Rattle.control_half.specs.Controlled.{HasApplied}
 use Rattle.control_half.specs.Published.{Published}

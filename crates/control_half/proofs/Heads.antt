@@ -1,5 +1,5 @@
 -- What is applied of the items that were taken.
-use Rattle.std.proofs.Common.{◌≡◌, ℕ, false, is_some, true≢false, MatchOption, ◌+◌, ◌≤◌, length, arith, List, [], ◌∷◌}
+use Rattle.std.proofs.Common.{◌≡◌, false, is_some, true≢false, MatchOption, ◌+◌, ◌≤◌, length, arith, List, [], ◌∷◌}
 use Rattle.std.proofs.Common.{◌++◌, Option, Some, None, refl, ap, sym, ◌∙◌, append-nil, option_to_list}
 use Rattle.control_half.specs.Applied.{but_last, before_head, KeepsNext}
 
@@ -28,8 +28,8 @@ module _ {X : Type 0} where
       → (old ≡ before_head head new) × KeepsNext head new
   looked N S None old new found = (sym found.0, sym (append-nil new))
   looked N S (Some item) old new found =
-      let front : old ≡ but_last new = sym (but_last_of old item) ∙ ap but_last (sym found.0) in
-      (front, found.0 ∙ ap (λ (l : List X). l ++ item ∷ []) front)
+      let prefix : old ≡ but_last new = sym (but_last_of old item) ∙ ap but_last (sym found.0) in
+      (prefix, found.0 ∙ ap (λ (l : List X). l ++ item ∷ []) prefix)
 
   -- an item that leaves the head is applied
   pub head_done : (head : Option X) (taken : List X) (item : X) → head ≡ Some item → KeepsNext head taken

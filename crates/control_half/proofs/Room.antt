@@ -1,7 +1,7 @@
 -- As many commands as a lane carries leave the counts of a session room to rise.
 use Rattle.std.proofs.Common.{ℕ, ◌+◌, ◌≤◌, ◌^◌, length, arith, List, [], ◌∷◌}
 use Rattle.bearer_state.specs.Session.{SessionState}
-use Rattle.control_steps.specs.Rise.{RiseByOne, CountsRise}
+use Rattle.control_steps.specs.Rise.{CountsRise}
 use Rattle.control_half.specs.declared.items.CommandItem.{CommandItem}
 use Rattle.control_half.specs.Applied.{HasRoomFor}
 use Rattle.control_half.specs.Controlled.{session_behind, stepped}

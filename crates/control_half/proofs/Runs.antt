@@ -28,10 +28,6 @@ module _ {V : Type 0} where
   last_same (w ∷ v ∷ ws) [] x y e = absurd (let h : v ∷ (ws ++ x ∷ []) ≡ [] = cc in let no : ⊥ = cc in no)
   last_same (w ∷ ws) (b ∷ bs) x y e = last_same ws bs x y (let h : ws ++ x ∷ [] ≡ bs ++ y ∷ [] = cc in h)
 
-  none_last : (before : List V) (last : V) → [] ≡ before ++ last ∷ [] → ⊥
-  none_last [] last e = cc
-  none_last (b ∷ bs) last e = cc
-
 module _ {V : Type 0} (number : V → ℕ) where
   pub consecutive_more : (versions : List V) (v : V) → AreConsecutive number versions → IsNext number versions v
       → AreConsecutive number (versions ++ v ∷ [])
@@ -51,7 +47,3 @@ module _ {V : Type 0} (number : V → ℕ) where
   pub next_after : (versions : List V) (last next : V) → number next ≡ number last + 1
       → IsNext number (versions ++ last ∷ []) next
   next_after versions last next is before other e = is ∙ ap (λ v. number v + 1) (last_same versions before last other e)
-
-  -- and of the one that it adds first
-  pub next_of_none : (next : V) → IsNext number [] next
-  next_of_none next before last e = absurd (none_last before last e)

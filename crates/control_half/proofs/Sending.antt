@@ -1,8 +1,7 @@
 -- Versions move from the one that is due into the batch, and with it to the other half.
-use Rattle.std.proofs.Common.{◌≡◌, ℕ, ◌+◌, length, List, [], ◌∷◌, ◌++◌, map, flat_map, Option, Some, None, refl, ap}
-use Rattle.std.proofs.Common.{sym, ◌∙◌, append-nil, append_assoc}
+use Rattle.std.proofs.Common.{◌≡◌, ℕ, ◌+◌, List, [], ◌∷◌, ◌++◌, map, Option, Some, ap}
+use Rattle.std.proofs.Common.{sym, ◌∙◌, append_assoc}
 use Rattle.std.proofs.lemmas.List.{map-append}
-use Rattle.std.proofs.lemmas.Grind.{flat_map-append}
 use Rattle.pc_base.specs.declared.numbered.Numbered.{Ghosts}
 use Rattle.bearer_state.specs.Session.{SessionState}
 use Rattle.bearer_state.specs.Version.{VersionState, version_of}
@@ -16,15 +15,6 @@ use Rattle.control_half.specs.Published.{Published, under, in_batch, in_batches,
 use Rattle.control_half.proofs.Applying.{numbered_on}
 
 module _ {g : Ghosts VersionState} where
-  -- a batch is sent
-  pub batch_sent : (sent : List (Batch VersionState g)) (batch : Batch VersionState g) (due : List Published)
-      → in_batches (sent ++ batch ∷ []) ++ due ≡ in_batches sent ++ (in_batch batch ++ due)
-  batch_sent sent batch due =
-      ap (λ (l : List Published). l ++ due)
-      (flat_map-append in_batch sent (batch ∷ [])
-      ∙ ap (λ (l : List Published). in_batches sent ++ l) (append-nil (in_batch batch)))
-      ∙ append_assoc (in_batches sent) (in_batch batch) due
-
   -- it has the number after the last one's
   pub joins_next : (first : ℕ) (start : SessionState) (items : List CommandItem) (sent : List (Batch VersionState g))
       (batch : Batch VersionState g) (floor : ℕ) (version : VersionState)
@@ -51,14 +41,3 @@ module _ {g : Ghosts VersionState} where
       joins_next first start items sent batch floor version
       ((λ i. in_batches sent ++ (in_kept (sym (sym same ∙ is_kept) i) ++ under floor (made i) ∷ []))
       ∙ (λ i. in_batches sent ++ (in_kept kept ++ in_due (sym is i) session number)) ∙ all)
-
-  -- and then none is due
-  pub due_joined : (sent kept : List Published) (batch : Batch VersionState g) (due : Option ℕ) (floor : ℕ)
-      (session : SessionState) (number : ℕ) (version : VersionState)
-      → in_batch batch ≡ kept ++ under floor version ∷ [] → due ≡ Some floor → version ≡ version_of session number
-      → sent ++ (kept ++ in_due due session number) ≡ sent ++ (in_batch batch ++ [])
-  due_joined sent kept batch due floor session number version joined is made =
-      (λ i. sent ++ (kept ++ in_due (is i) session number))
-      ∙ (λ i. sent ++ (kept ++ under floor (sym made i) ∷ []))
-      ∙ (λ i. sent ++ sym joined i)
-      ∙ (λ i. sent ++ sym (append-nil (in_batch batch)) i)

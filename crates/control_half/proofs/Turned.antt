@@ -7,14 +7,13 @@ use Rattle.lane_core.specs.declared.did.Did.TheVariants.{Idle, Held, Worked}
 use Rattle.lane_core.specs.Ends.{raised, sent, full_answers, empty_answers}
 use Rattle.pc_base.specs.declared.numbered.Numbered.{Ghosts}
 use Rattle.bearer_state.specs.Version.{VersionState}
-use Rattle.bearer_state.specs.contracts.version.VersionNumbered.TheImpl.{ghosts}
 use Rattle.control_half.specs.declared.batch.Batch.{Batch}
 use Rattle.control_half.specs.Batch.{versions_of, floor_of}
 use Rattle.control_half.specs.declared.items.CommandItem.{CommandItem}
 use Rattle.control_half.specs.declared.inner.ControlInner.{ControlInner}
 use Rattle.control_half.specs.Half.{IsSameHalf, seen_of}
-use Rattle.control_half.specs.Turns.{Grew, IsAhead, HasOtherFloor, Stops, SendsAs, IsLatest, StoppedFor, Seen, CameTo}
-use Rattle.control_half.specs.Turns.{Rested, Stopped, Ended, came_to, size}
+use Rattle.control_half.specs.Turns.{Grew, IsAhead, HasOtherFloor, Stops, SendsAs, StoppedFor, Seen, CameTo}
+use Rattle.control_half.specs.Turns.{Stopped, Ended, came_to, size}
 
 pub grew_more : {X : Type 0} (a b c : List X) → Grew a b → Grew b c → Grew a c
 grew_more a b c one more = (
@@ -228,14 +227,3 @@ module _ (old one two new : ControlInner) (applied before : Bool) (behind : Opti
           (full_answers new.versions) t.sends_behind,
     );
   }
-
--- the lane of versions refused the batch that was kept
-pub turn_held : (old new : ControlInner) → SendsAs None old.batch new.batch (sent old.versions) (sent new.versions)
-    (full_answers old.versions) (full_answers new.versions) → new.control ≡ old.control
-    → Ended Held (seen_of old) (seen_of new)
-turn_held old new sends control = record {
-  came = (record { number = ap (λ k. k.number) control; sent = sends.1 }, sends.2);
-  stopped = tt;
-  commands = omega (arith, ap (λ k. k.number) control);
-  batches = omega (arith, ap (λ l. length l) sends.1);
-}

@@ -1,13 +1,11 @@
 -- What a clause says of a control half.
-use Rattle.std.specs.Prelude.{◌≡◌, ℕ, List}
-use Rattle.lane_core.specs.Ends.{sender_lane, receiver_lane, sent, taken, empty_answers, full_answers}
+use Rattle.std.specs.Prelude.{◌≡◌, ℕ}
+use Rattle.lane_core.specs.Ends.{sender_lane, receiver_lane, sent, empty_answers, full_answers}
 use Rattle.bearer_state.specs.contracts.version.VersionNumbered.TheImpl.{ghosts}
 use Rattle.lane_core.specs.declared.did.Did.{Did}
 use Rattle.control_half.specs.declared.half.ControlHalf.{ControlHalf}
 use Rattle.control_half.specs.declared.inner.ControlInner.{ControlInner}
 use Rattle.control_half.specs.declared.making.ControlEnd.{ControlEnd}
-use Rattle.control_half.specs.declared.items.CommandItem.{CommandItem}
-use Rattle.control_half.specs.Applied.{before_head}
 use Rattle.control_half.specs.Named.{Named}
 use Rattle.control_half.specs.Turns.{Seen, Ended}
 
@@ -21,10 +19,6 @@ inner_name inner = record {
 
 abbrev pub name_of : ControlHalf → Named
 name_of half = inner_name half.inner.value
-
--- the commands that it applied
-abbrev pub applied_by : ControlHalf → List CommandItem
-applied_by half = before_head half.inner.value.head (taken half.inner.value.commands)
 
 -- how often it was turned, and worked, and had moved
 abbrev pub turns_of : ControlHalf → ℕ

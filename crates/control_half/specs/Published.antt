@@ -1,5 +1,5 @@
 -- Versions on their way, each with the count of packets that are to be handled before it may be learnt.
-use Rattle.std.specs.Prelude.{ℕ, Option, Some, None, List, [], ◌∷◌, map}
+use Rattle.std.specs.Prelude.{ℕ, Option, Some, None, List, [], map}
 use Rattle.std.specs.List.{flat_map}
 use Rattle.pc_base.specs.declared.numbered.Numbered.{Ghosts}
 use Rattle.bearer_state.specs.Version.{VersionState}

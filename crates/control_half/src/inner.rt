@@ -1,5 +1,5 @@
 //! What a control half holds beside its slot.
-ghost use Rattle.std.specs.Prelude.{◌≡◌, ◌+◌, ◌≤◌, [], ◌∷◌, ◌++◌, length, option_to_list};
+ghost use Rattle.std.specs.Prelude.{◌+◌, ◌≤◌, ◌++◌, length, option_to_list};
 ghost use Rattle.lane_core.specs.Ends.{sent, taken};
 ghost use Rattle.control_half.specs.Applied.{before_head, KeepsNext, in_due, JoinsBatch, HasRoomFor};
 ghost use Rattle.control_half.specs.Controlled.{HasApplied};

@@ -1,12 +1,12 @@
 -- Each element that is written is in its ranges.
-use Rattle.std.proofs.Common.{◌≡◌, ℕ, ◌+◌, ◌*◌, ◌/◌, ◌%◌, ◌<◌, ◌≤◌, ◌^◌, Bool, true, false, cond, List, [], ◌∷◌, ◌++◌, length, Option, Some, None, IfSome, refl, arith, length-append}
+use Rattle.std.proofs.Common.{◌≡◌, ℕ, ◌*◌, ◌<◌, ◌≤◌, ◌^◌, Bool, true, false, cond, List, [], ◌∷◌, length, Option, Some, None, IfSome, arith, length-append}
 use Rattle.std.specs.List.{AllByRecursion, flat_map, filter_map, cons_option}
 use Rattle.std.specs.Option.{option_map}
-use Rattle.tft_codec.specs.Component.{AreComponents, contents}
+use Rattle.tft_codec.specs.Component.{contents}
 use Rattle.tft_codec.specs.declared.filter.Filter.{Filter}
 use Rattle.tft_codec.specs.declared.tft.Tft.{Tft}
 use Rattle.tft_codec.specs.declared.tft.Tft.TheVariants.{Create, Delete, Add, Replace, Remove, Nothing}
-use Rattle.tft_codec.specs.Filter.{IsFilter, ArePacketFilters, AreIds}
+use Rattle.tft_codec.specs.Filter.{IsFilter, ArePacketFilters}
 use Rattle.tft_codec.specs.Spelling.{filter_text, entries_text, spelling}
 use Rattle.tft_codec.specs.Tft.{IsTft}
 use Rattle.tft_codec.proofs.Bounds.{contents_bound}
@@ -22,7 +22,7 @@ use Rattle.bearer_state.specs.Bearer.{IsBearer, IsEbi, is_active, index_of}
 use Rattle.bearer_state.specs.Lookup.{active_index}
 use Rattle.bearer_state.specs.Qos.{IsArp, IsQos}
 use Rattle.std.specs.List.{find}
-use Rattle.control_steps.specs.Messages.{control_end, user_end, cause_element, accepted, ask_accepted, new_context, changed_context, qos_ie, element}
+use Rattle.control_steps.specs.Messages.{control_end, user_end, cause_element, accepted, ask_accepted, new_context, changed_context, qos_ie}
 
 pub cause_fits : (code : ℕ) → code < 2 ^ 8 → IsElement (cause_element code)
 cause_fits code fits = record { instance = omega arith; value = record { octet = fits; offending = tt } }

@@ -1,6 +1,6 @@
 -- Each message that is written fits: its type is known, and its length field holds its length.
-use Rattle.std.proofs.Common.{◌≡◌, ℕ, ◌+◌, ◌*◌, ◌<◌, ◌≤◌, ◌^◌, true, List, [], ◌∷◌, ◌++◌, length, Option, Some, None, IfSome, refl, arith, length-append}
-use Rattle.std.specs.List.{flat_map, filter_map, cons_option}
+use Rattle.std.proofs.Common.{◌≡◌, ℕ, ◌+◌, ◌*◌, ◌<◌, ◌≤◌, ◌^◌, List, [], ◌∷◌, length, Option, Some, None, IfSome, refl, arith, length-append}
+use Rattle.std.specs.List.{filter_map, cons_option}
 use Rattle.std.specs.Option.{option_map}
 use Rattle.gtpv2_ie.specs.Element.{Element}
 use Rattle.gtpv2_ie.specs.Spelling.{spelling, spellings}

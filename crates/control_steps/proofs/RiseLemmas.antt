@@ -1,15 +1,14 @@
 -- A command raises no count by more than one.
-use Rattle.std.proofs.Common.{ℕ, ◌+◌, ◌≤◌, List, Option, Some, None, arith}
+use Rattle.std.proofs.Common.{ℕ, List, Option, Some, None, arith}
 use Rattle.pc_base.specs.declared.packet.Peer.{Peer}
 use Rattle.tft_codec.specs.declared.filter.Filter.{Filter}
-use Rattle.bearer_state.specs.declared.kept.Kept.{Kept}
 use Rattle.bearer_state.specs.declared.qos.Qos.{Qos}
 use Rattle.bearer_state.specs.Session.{SessionState}
 use Rattle.control_steps.specs.declared.command.CommandKind.{CommandKind}
-use Rattle.control_steps.specs.declared.command.CommandKind.TheVariants.{Attach, Create, Modify, Release, Delete, AddBearer, Filters, Drop, Ambr, CreateAns, UpdateAns, DeleteAns}
+use Rattle.control_steps.specs.declared.command.CommandKind.TheVariants.{Attach, Create, Modify, AddBearer, Filters, Drop, Ambr, CreateAns}
 use Rattle.control_steps.specs.Rise.{RiseByOne, CountsRise}
-use Rattle.control_steps.specs.Row.{Row, repeated, pdn_refused, class_refused, created, attached, no_session, no_bearer, modified, released, deleted, not_asked, asked, not_refiltered, refiltered, not_dropped, dropped, not_rerated, rerated, unasked, granted, denied, noted, filters_given, filters_made, row_of}
-use Rattle.control_steps.specs.Table.{effect, with_bearer, with_filters, with_enb, qos_asked, last_answer, controlled}
+use Rattle.control_steps.specs.Row.{Row, created, attached, modified, asked, refiltered, dropped, rerated, granted, denied, filters_given, filters_made, row_of}
+use Rattle.control_steps.specs.Table.{effect, with_bearer, with_filters, with_enb, qos_asked}
 use Rattle.bearer_state.specs.Lookup.{least_free}
 
 bearer_rises : (session : SessionState) (seq : ℕ) (qos : Qos) (index : Option ℕ) (filters : Option (List Filter))

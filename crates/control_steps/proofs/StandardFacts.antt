@@ -7,7 +7,6 @@ use Rattle.tft_codec.specs.declared.component.Component.TheVariants.{Protocol}
 use Rattle.tft_codec.specs.declared.filter.Filter.{Filter}
 use Rattle.tft_codec.specs.declared.tft.Tft.{Tft}
 use Rattle.tft_codec.specs.declared.tft.Tft.TheVariants as templates
-use Rattle.bearer_state.specs.declared.ask.Ask.{Ask}
 use Rattle.bearer_state.specs.declared.qos.Qos.{Qos}
 use Rattle.bearer_state.specs.Session.{SessionState, new_session}
 use Rattle.control_steps.specs.declared.command.CommandKind.{CommandKind}

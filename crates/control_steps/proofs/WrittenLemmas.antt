@@ -1,16 +1,12 @@
 -- Each message of the table fits, has its elements in range, and has what its type asks for.
-use Rattle.std.proofs.Common.{◌≡◌, ℕ, ◌+◌, ◌<◌, ◌≤◌, ◌^◌, Bool, true, false, if◌then◌else◌, ◌==◌, List, [], ◌∷◌, ◌++◌, length, Option, Some, None, IfSome, unwrap_or, refl, arith}
-use Rattle.std.specs.List.{AllByRecursion, find, range_with_len}
-use Rattle.std.specs.Option.{option_map, option_or}
+use Rattle.std.proofs.Common.{◌≡◌, ℕ, ◌<◌, ◌≤◌, ◌^◌, Bool, true, false, if◌then◌else◌, ◌==◌, List, [], ◌∷◌, Option, IfSome, refl, arith}
+use Rattle.std.specs.List.{AllByRecursion}
 use Rattle.std.proofs.lemmas.Bool.{false≢true}
-use Rattle.pc_base.specs.declared.packet.Peer.{Peer}
-use Rattle.tft_codec.specs.declared.tft.Tft.{Tft}
-use Rattle.tft_codec.specs.Spelling.{spelling as tft_spelling}
 use Rattle.gtpv2_ie.specs.declared.kind.IeKind.TheVariants as kinds
 use Rattle.gtpv2_ie.specs.Validity.{IsElement, IsOctets}
 use Rattle.gtpv2_ie.specs.Validity as elements
 use Rattle.gtpv2_msg.specs.declared.kind.TheConstants.{CREATE_SESSION_REQUEST, MODIFY_BEARER_REQUEST, RELEASE_ACCESS_BEARERS_REQUEST, DELETE_SESSION_REQUEST}
-use Rattle.gtpv2_msg.specs.HasRequired.{HasRequired, Has}
+use Rattle.gtpv2_msg.specs.HasRequired.{HasRequired}
 use Rattle.gtpv2_msg.specs.Kinds.{answer_of}
 use Rattle.gtpv2_msg.specs.Message.{Message}
 use Rattle.gtpv2_msg.specs.Required.{required, only}

@@ -1,5 +1,5 @@
 -- What a row writes fits, whatever the row is.
-use Rattle.std.proofs.Common.{◌≡◌, ℕ, ◌+◌, ◌<◌, ◌≤◌, ◌^◌, ◌==◌, not, Bool, true, false, cond, List, [], ◌∷◌, ◌++◌, Option, Some, None, IfSome, unwrap_or, refl, arith}
+use Rattle.std.proofs.Common.{ℕ, ◌+◌, ◌<◌, ◌≤◌, ◌^◌, ◌==◌, not, Bool, true, false, cond, List, [], ◌∷◌, ◌++◌, Option, Some, None, IfSome, unwrap_or, refl, arith}
 use Rattle.std.specs.List.{AllByRecursion, find, range_with_len}
 use Rattle.std.specs.Option.{option_map, option_or, option_and_then}
 use Rattle.pc_base.specs.declared.packet.Peer.{Peer}
@@ -17,18 +17,18 @@ use Rattle.bearer_state.specs.declared.bearer.Phase.TheVariants.{Asked, Active}
 use Rattle.bearer_state.specs.declared.bearer.Bearer.{Bearer}
 use Rattle.bearer_state.specs.declared.qos.Qos.{Qos}
 use Rattle.bearer_state.specs.declared.version.ActiveBearer.{ActiveBearer}
-use Rattle.bearer_state.specs.Bearer.{IsBearer, IsEbi, IsSeq, IsPhase, AreBearers, index_of}
+use Rattle.bearer_state.specs.Bearer.{IsBearer, IsEbi, IsPhase, AreBearers, index_of}
 use Rattle.bearer_state.specs.Lookup.{at_index, has_index, least_free, default_of}
 use Rattle.bearer_state.specs.Qos.{IsArp, IsQos}
 use Rattle.bearer_state.specs.Session.{SessionState, IsSession}
 use Rattle.bearer_state.specs.Version.{active_in}
 use Rattle.control_steps.specs.declared.command.CommandKind.{CommandKind}
-use Rattle.control_steps.specs.declared.command.CommandKind.TheVariants.{Attach, Create, Modify, Release, Delete, AddBearer, Filters, Drop, Ambr, CreateAns, UpdateAns, DeleteAns}
+use Rattle.control_steps.specs.declared.command.CommandKind.TheVariants.{Create, Modify, Release, Delete, AddBearer, Filters, Drop, Ambr}
 use Rattle.control_steps.specs.Command.{IsCommand, request_of}
 use Rattle.control_steps.specs.Messages.{create_bearer_request}
 use Rattle.control_steps.specs.ReadBack.{HasTeid, HasNumbers, AreOrderNumbers, HasOwnNumbers, ReadsBack}
-use Rattle.control_steps.specs.Row.{Row, repeated, pdn_refused, class_refused, created, attached, no_session, no_bearer, modified, released, deleted, not_asked, asked, not_refiltered, refiltered, not_dropped, dropped, not_rerated, rerated, unasked, granted, denied, noted}
-use Rattle.control_steps.specs.Table.{default_ebi, default_arp, qos_asked, teid_of_mme, cause_answer, written}
+use Rattle.control_steps.specs.Row.{Row, pdn_refused, class_refused, created, no_session, no_bearer, modified, released, deleted, asked, refiltered, dropped, rerated}
+use Rattle.control_steps.specs.Table.{default_ebi, qos_asked, teid_of_mme, cause_answer, written}
 use Rattle.control_steps.proofs.ElementLemmas.{ebi_fits, template_fits}
 use Rattle.control_steps.proofs.WrittenLemmas.{Fits, create_asks, modify_asks, release_asks, delete_asks, cause_alone_is, create_session_response_is, modify_bearer_response_is, create_bearer_request_is, update_bearer_request_is, delete_bearer_request_is}
 

@@ -12,7 +12,6 @@ use Rattle.bearer_state.specs.Ask.{AreAsks}
 use Rattle.bearer_state.specs.Bearer.{IsEbi, IsSeq}
 use Rattle.bearer_state.specs.Qos.{IsQos}
 use Rattle.bearer_state.specs.Session.{IsAmbr}
-use Rattle.tft_codec.specs.Tft.{IsTft}
 
 pub record AreRates (up down : ℕ) : Type 0 where
   pub up_fits : IsAmbr up

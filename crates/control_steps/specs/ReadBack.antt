@@ -1,5 +1,5 @@
 -- That a written message reads back, and the ranges that its numbers have by the types of their fields.
-use Rattle.std.specs.Prelude.{ℕ, ◌<◌, ◌≤◌, ◌^◌, ◌++◌, List, Option, IfSome}
+use Rattle.std.specs.Prelude.{ℕ, ◌<◌, ◌≤◌, ◌^◌, ◌++◌, List, IfSome}
 use Rattle.pc_base.specs.declared.packet.Peer.{Peer}
 use Rattle.tft_codec.specs.Tft.{IsTft}
 use Rattle.gtpv2_msg.specs.Message.{Message}

@@ -1,5 +1,5 @@
 -- How far the counts of a session rise.
-use Rattle.std.specs.Prelude.{ℕ, ◌+◌, ◌≤◌}
+use Rattle.std.specs.Prelude.{◌+◌, ◌≤◌}
 use Rattle.bearer_state.specs.Session.{SessionState}
 use Rattle.control_steps.specs.declared.command.CommandKind.{CommandKind}
 use Rattle.control_steps.specs.Table.{controlled}

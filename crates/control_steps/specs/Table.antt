@@ -1,15 +1,14 @@
 -- The control table (TS 23.401, 5.3 to 5.5, in this profile): by its row, what a command leaves of a
 -- session, and what is answered.
-use Rattle.std.specs.Prelude.{ℕ, Bool, List, [], Option, Some, None, unwrap_or, if◌then◌else◌}
-use Rattle.std.specs.Option.{option_map, option_or, option_and_then}
+use Rattle.std.specs.Prelude.{ℕ, List, Option, Some, None, unwrap_or}
+use Rattle.std.specs.Option.{option_map, option_or}
 use Rattle.pc_base.specs.declared.packet.Peer.{Peer}
 use Rattle.pc_base.specs.declared.reply.Outcome.{Outcome}
 use Rattle.pc_base.specs.declared.reply.Outcome.TheVariants.{Done, No, Again}
 use Rattle.pc_base.specs.declared.reply.Reply.{Reply}
 use Rattle.tft_codec.specs.declared.filter.Filter.{Filter}
-use Rattle.tft_codec.specs.declared.tft.Tft.{Tft}
 use Rattle.tft_codec.specs.Spelling.{spelling as tft_spelling}
-use Rattle.gtpv2_msg.specs.declared.kind.TheConstants.{CREATE_SESSION_REQUEST, MODIFY_BEARER_REQUEST}
+use Rattle.gtpv2_msg.specs.declared.kind.TheConstants.{CREATE_SESSION_REQUEST}
 use Rattle.gtpv2_msg.specs.Message.{Message}
 use Rattle.gtpv2_msg.specs.Spelling.{spelling}
 use Rattle.bearer_state.specs.declared.bearer.Bearer.{Bearer}
@@ -20,8 +19,8 @@ use Rattle.bearer_state.specs.Changes as changes
 use Rattle.bearer_state.specs.Lookup.{least_free, default_of}
 use Rattle.bearer_state.specs.Session.{SessionState}
 use Rattle.control_steps.specs.declared.command.CommandKind.{CommandKind}
-use Rattle.control_steps.specs.declared.command.CommandKind.TheVariants.{Attach, Create, Modify, Release}
-use Rattle.control_steps.specs.declared.command.CommandKind.TheVariants.{Delete, AddBearer}
+use Rattle.control_steps.specs.declared.command.CommandKind.TheVariants.{Attach, Create, Modify}
+use Rattle.control_steps.specs.declared.command.CommandKind.TheVariants.{AddBearer}
 use Rattle.control_steps.specs.declared.command.CommandKind.TheVariants.{Filters, Drop, Ambr, CreateAns}
 use Rattle.control_steps.specs.declared.cause.TheConstants.{REQUEST_ACCEPTED, CONTEXT_NOT_FOUND}
 use Rattle.control_steps.specs.declared.cause.TheConstants.{PREFERRED_PDN_TYPE_NOT_SUPPORTED, REQUEST_REJECTED}

@@ -134,17 +134,6 @@ impl Command {
     }
 }
 
-impl Command {
-    ghost use Rattle.control_steps.specs.Command.{IsCommand};
-
-    /// The ranges that every command keeps.
-    pub fn known(&self)
-        ensures { IsCommand self.now }
-    {
-        let _kind = &self.kind;
-    }
-}
-
 fn is_seq(seq: u32) -> bool
     ensures { IsTrue result ↔ IsSeq seq }
 {

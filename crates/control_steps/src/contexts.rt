@@ -1,7 +1,7 @@
 //! The elements of the messages that the gateway writes.
-ghost use Rattle.std.specs.Prelude.{◌≡◌, ◌<◌, ◌≤◌, ◌^◌, IfOk, IfSome};
+ghost use Rattle.std.specs.Prelude.{◌≡◌, ◌<◌, ◌≤◌, IfOk, IfSome};
 ghost use Rattle.pc_base.specs.Addresses.{addr_of};
-ghost use Rattle.gtpv2_ie.specs.Validity.{IsEbi, IsOctets, IsContext, IsFteid};
+ghost use Rattle.gtpv2_ie.specs.Validity.{IsEbi, IsOctets, IsFteid};
 ghost use Rattle.gtpv2_ie.specs.Validity as elements;
 ghost use Rattle.bearer_state.specs.Qos.{IsQos};
 ghost use Rattle.control_steps.specs.Messages.{cause_element, accepted, new_context, changed_context};

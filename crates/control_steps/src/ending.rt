@@ -1,5 +1,4 @@
 //! A subscriber becomes idle (TS 23.401, 5.3.5), or detaches (5.3.8).
-ghost use Rattle.std.specs.Prelude.{◌≡◌};
 ghost use Rattle.bearer_state.specs.Bearer.{IsSeq};
 ghost use Rattle.control_steps.specs.declared.command.CommandKind.TheVariants as commands;
 ghost use Rattle.control_steps.specs.Row.{first_row};

@@ -1,5 +1,4 @@
 //! Create Bearer Responses: a bearer that was asked for becomes active, or goes (TS 23.401, 5.4.1).
-ghost use Rattle.std.specs.Prelude.{◌≡◌};
 ghost use Rattle.control_steps.specs.Granting.{response};
 ghost use Rattle.control_steps.specs.Row.{first_row};
 ghost use Rattle.control_steps.specs.Steps.{IsDone};

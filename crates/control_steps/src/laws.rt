@@ -22,7 +22,6 @@ pub fn written_messages_read_back(session: &Session, command: &Command)
 {
     session.known();
     numbers(session);
-    command.known();
     own_numbers(&command.kind);
     messages_read_back();
 }

@@ -1,10 +1,10 @@
 //! The messages that the gateway writes to an MME (TS 29.274, 7.2).
-ghost use Rattle.std.specs.Prelude.{◌≡◌, ◌<◌, ◌≤◌, ◌^◌, ◌∷◌, IfOk, IfSome};
+ghost use Rattle.std.specs.Prelude.{◌≡◌, ◌<◌, ◌≤◌, ◌∷◌, IfOk, IfSome};
 ghost use Rattle.std.specs.List.{filter_map};
 ghost use Rattle.tft_codec.specs.Spelling.{spelling};
 ghost use Rattle.gtpv2_ie.specs.Validity.{IsEbi, IsOctets};
 ghost use Rattle.bearer_state.specs.Ask.{AreAsks};
-ghost use Rattle.bearer_state.specs.Bearer.{AreBearers, IsSeq};
+ghost use Rattle.bearer_state.specs.Bearer.{IsSeq};
 ghost use Rattle.bearer_state.specs.Bearer as bearers;
 ghost use Rattle.bearer_state.specs.Qos.{IsQos};
 ghost use Rattle.bearer_state.specs.Session.{IsAmbr};

@@ -11,10 +11,10 @@ use pc_base::{SliceNo, Slot};
 use std::sync::Wait;
 use worker_core::{DataKind, DataTraveller};
 
-impl Carried for DataHalf {}
+impl<'p> Carried for DataHalf<'p> {}
 
-impl DataKind for DataHalf {
-    type Item = DataItem;
+impl<'p> DataKind for DataHalf<'p> {
+    type Item = DataItem<'p>;
 
     ghost slot_of_half = { λ half. half.inner.value.state.started.session.slot };
 
@@ -24,12 +24,12 @@ impl DataKind for DataHalf {
         self.slot
     }
 
-    fn slot_of(item: &DataItem) -> Slot {
+    fn slot_of(item: &DataItem<'p>) -> Slot {
         item.slot
     }
 }
 
-impl DataTraveller for DataHalf {
+impl<'p> DataTraveller for DataHalf<'p> {
     ghost use Rattle.std.specs.Prelude.{length};
     ghost use Rattle.counter_half.specs.declared.items.PacketDone.{PacketDone};
     ghost use Rattle.counter_half.specs.Handled.{Handled, note_of, noted};
@@ -64,11 +64,11 @@ impl DataTraveller for DataHalf {
         self.learn_at_most(rt, most)
     }
 
-    fn may(&self, item: &DataItem) -> bool {
+    fn may(&self, item: &DataItem<'p>) -> bool {
         self.may_handle(item)
     }
 
-    fn item(&mut self, place: SliceNo, item: &DataItem) -> Result<(), NoMemory> {
+    fn item(&mut self, place: SliceNo, item: &DataItem<'p>) -> Result<(), NoMemory> {
         self.handle(place, item)
     }
 

@@ -6,8 +6,8 @@ use pc_base::Slot;
 
 /// A subscriber's data half. What it holds lies behind one pointer, since halves are handed from slice to slice.
 #[derive(Drop)]
-pub struct DataHalf {
+pub struct DataHalf<'p> {
     pub(crate) slot: Slot,
-    pub(crate) inner: Box<DataInner>,
+    pub(crate) inner: Box<DataInner<'p>>,
     ghost of_slot: { slot ≡ inner.value.state.started.session.slot },
 }

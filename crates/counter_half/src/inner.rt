@@ -12,8 +12,8 @@ use lane_core::Receiver;
 
 /// What the half knows and noted, and its versions on their way in.
 #[derive(Drop)]
-pub struct DataInner {
-    pub(crate) state: HalfState,
+pub struct DataInner<'p> {
+    pub(crate) state: HalfState<'p>,
     /// A batch that was taken and isn't learnt, or not whole.
     pub(crate) batch: Option<Batch<Version>>,
     pub(crate) versions: Receiver<Batch<Version>>,

@@ -1,11 +1,12 @@
 //! What comes to the half, and what it notes.
+use crate::lent::{SentPacket, ToldVerdict};
 use lane_core::Carried;
 use packet_steps::Effects;
-use pc_base::{Packet, Place, Slot, Verdict};
+use pc_base::{Place, Slot};
 
 /// A packet on its way.
 #[derive(Debug, Drop)]
-pub struct DataItem {
+pub struct DataItem<'p> {
     pub slot: Slot,
     /// Its place among the packets of its subscriber.
     pub number: u64,
@@ -13,22 +14,19 @@ pub struct DataItem {
     pub floor: u64,
     /// Its line of the trace.
     pub line: u64,
-    /// Whether it waited at the front while its subscriber was moved.
-    pub parked: bool,
-    pub packet: Packet,
+    pub packet: SentPacket<'p>,
 }
 
-impl Carried for DataItem {}
+impl<'p> Carried for DataItem<'p> {}
 
 /// The verdict on the packet of this number, behind so many commands; and where it was handled.
-#[derive(Debug, Drop, PartialEq, Eq)]
-pub struct PacketDone {
+#[derive(Debug, Drop)]
+pub struct PacketDone<'p> {
     pub line: u64,
     pub number: u64,
     pub commands: u64,
-    pub verdict: Verdict,
+    pub verdict: ToldVerdict<'p>,
     pub place: Place,
-    pub parked: bool,
 }
 
 /// The effects of the command of this number, as its version was learnt.

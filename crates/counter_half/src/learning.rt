@@ -1,7 +1,7 @@
 //! Versions are learnt, and packets handled.
-ghost use Rattle.std.specs.Prelude.{◌≡◌, ◌≢◌, ◌+◌, ◌<◌, ◌≤◌, ◌⊎◌, [], ◌∷◌, ◌++◌, true, false};
-ghost use Rattle.std.specs.Prelude.{None, Ok, length, IfOk, OnOk, OnErr, IsTrue, IsFalse};
-ghost use Rattle.lane_core.specs.Ends.{taken, empty_answers, raised};
+ghost use Rattle.std.specs.Prelude.{◌≡◌, ◌≢◌, ◌+◌, ◌<◌, ◌≤◌, [], ◌∷◌, ◌++◌, true, false};
+ghost use Rattle.std.specs.Prelude.{None, Ok, IfOk, OnOk, OnErr, IsTrue, IsFalse};
+ghost use Rattle.lane_core.specs.Ends.{empty_answers, raised};
 ghost use Rattle.worker_core.specs.DataCounts.{learns_after};
 ghost use Rattle.counter_half.specs.declared.items.DataItem.{DataItem};
 ghost use Rattle.control_half.specs.Turns.{size as left_in};
@@ -16,7 +16,7 @@ use std::sync::Wait;
 /// How many packets a half handles at most.
 const MOST_PACKETS: usize = 0x4_0000_0000_0000;
 
-impl DataHalf {
+impl<'p> DataHalf<'p> {
     ghost use Rattle.counter_half.specs.Half.{name_of, handled_by, places_of, may_take, asks_of};
     ghost use Rattle.counter_half.specs.Half.{learns_of, batches_of, HalfStops, Judges};
 
@@ -45,7 +45,7 @@ impl DataHalf {
     }
 
     /// Whether it has learnt as many commands as an item asks for, and may handle one more.
-    pub fn may_handle(&self, item: &DataItem) -> bool
+    pub fn may_handle(&self, item: &DataItem<'p>) -> bool
         ensures { result ≡ may_take self.now item.now }
     {
         self.inner.may_handle(item)
@@ -53,7 +53,7 @@ impl DataHalf {
 
     /// Handles an item at a slice, at the last one's moment where its own is earlier. When out of memory,
     /// nothing changes.
-    pub fn handle(&mut self, place: SliceNo, item: &DataItem) -> Result<(), NoMemory>
+    pub fn handle(&mut self, place: SliceNo, item: &DataItem<'p>) -> Result<(), NoMemory>
         requires { may_take self.old item.now ≡ true }
 
         ensures name { name_of self.new ≡ name_of self.old }
@@ -70,7 +70,7 @@ impl DataHalf {
     }
 }
 
-impl DataInner {
+impl<'p> DataInner<'p> {
     ghost use Rattle.counter_half.specs.Half.{inner_name, inner_handled, inner_places, inner_takes, batches_learnt};
     ghost use Rattle.counter_half.specs.Half.{IsReady, HasNoMore, Stops, JudgesInner};
 
@@ -98,13 +98,13 @@ impl DataInner {
         Ok(learnt)
     }
 
-    fn may_handle(&self, item: &DataItem) -> bool
+    fn may_handle(&self, item: &DataItem<'p>) -> bool
         ensures { result ≡ inner_takes self.now item.now }
     {
         item.floor <= self.state.met && self.state.notes.len() < MOST_PACKETS
     }
 
-    fn handle(&mut self, place: SliceNo, item: &DataItem) -> Result<(), NoMemory>
+    fn handle(&mut self, place: SliceNo, item: &DataItem<'p>) -> Result<(), NoMemory>
         requires { inner_takes self.old item.now ≡ true }
 
         ensures name { inner_name self.new ≡ inner_name self.old }

@@ -17,15 +17,15 @@ use worker_core::Log;
 
 /// What is left of a half that is turned no more.
 #[derive(Drop)]
-pub struct DataRest {
-    pub state: HalfState,
+pub struct DataRest<'p> {
+    pub state: HalfState<'p>,
     pub batch: Option<Batch<Version>>,
     pub versions: Receiver<Batch<Version>>,
     pub ghost in_order: { in_batches (taken versions) ≡ learnt_in state.learnt.items ++ in_kept batch },
     pub ghost few: { (state.started.version.number ≤ 2 ^ 60) × (state.started.packets ≤ 2 ^ 60) },
 }
 
-impl DataHalf {
+impl<'p> DataHalf<'p> {
     ghost use Rattle.counter_half.specs.Half.{name_of, rest_name, handled_by};
 
     /// The half of a subscriber with a session, version, counters and count of packets, and with its
@@ -36,7 +36,7 @@ impl DataHalf {
         counters: Counters,
         packets: u64,
         versions: Receiver<Batch<Version>>,
-    ) -> Result<DataHalf, (Version, Counters)>
+    ) -> Result<DataHalf<'p>, (Version, Counters)>
         requires few { (version.number ≤ 2 ^ 60) × (packets ≤ 2 ^ 60) }
         requires new { taken versions ≡ [] }
 
@@ -59,9 +59,9 @@ impl DataHalf {
     }
 
     /// Takes the half apart.
-    pub fn into_rest(self) -> DataRest
-        ensures name { rest_name result ≡ name_of self }
-        ensures state { result.state ≡ self.inner.value.state }
+    pub fn into_rest(self) -> DataRest<'p>
+        ensures name { rest_name result ≡ name_of self.entry }
+        ensures state { result.state ≡ self.entry.inner.value.state }
     {
         let DataInner {
             state,
@@ -78,8 +78,8 @@ impl DataHalf {
 }
 
 /// The version and the counters that are held.
-fn parts_of(inner: DataInner) -> (Version, Counters)
-    ensures { (result.0 ≡ inner.state.version) × (result.1 ≡ inner.state.counters) }
+fn parts_of(inner: DataInner<'_>) -> (Version, Counters)
+    ensures { (result.0 ≡ inner.entry.state.version) × (result.1 ≡ inner.entry.state.counters) }
 {
     let DataInner { state, .. } = inner;
     let HalfState {
@@ -90,7 +90,7 @@ fn parts_of(inner: DataInner) -> (Version, Counters)
     (version, counters)
 }
 
-impl DataInner {
+impl<'p> DataInner<'p> {
     ghost use Rattle.counter_half.specs.Half.{inner_name, inner_handled};
 
     /// What a new half holds.
@@ -100,7 +100,7 @@ impl DataInner {
         counters: Counters,
         packets: u64,
         versions: Receiver<Batch<Version>>,
-    ) -> DataInner
+    ) -> DataInner<'p>
         requires few { (version.number ≤ 2 ^ 60) × (packets ≤ 2 ^ 60) }
         requires new { taken versions ≡ [] }
         ensures name { inner_name result ≡ record {

@@ -1,6 +1,6 @@
 //! One version more, and one packet more.
 ghost use Rattle.std.specs.Prelude.{◌≡◌, ℕ, ◌+◌, ◌<◌, ◌≤◌, ◌^◌, [], ◌∷◌, ◌++◌, true};
-ghost use Rattle.std.specs.Prelude.{false, Some, length, map, IfOk, OnOk, OnErr};
+ghost use Rattle.std.specs.Prelude.{false, Some, length, map, IfOk, IfSome, OnOk, OnErr};
 ghost use Rattle.packet_steps.specs.Past.{Past};
 ghost use Rattle.packet_steps.specs.Verdicts.{judged};
 ghost use Rattle.packet_steps.specs.Standing.{StandsFor, AreFew, last_of};
@@ -11,13 +11,13 @@ ghost use Rattle.counter_half.specs.Moments.{later, not_before, IsJudged};
 
 use crate::half_state::HalfState;
 use crate::laws::known_pasts;
-use crate::{DataItem, NoMemory, PacketDone, VersionDone};
+use crate::{DataItem, NoMemory, PacketDone, SentPacket, ToldVerdict, VersionDone};
 use bearer_state::Version;
 use control_half::Batch;
-use packet_steps::{Counters, advance, handle};
-use pc_base::{Packet, Place, Verdict};
+use packet_steps::{Counters, advance, judge};
+use pc_base::{Moment, Place};
 
-impl HalfState {
+impl<'p> HalfState<'p> {
     ghost use Rattle.counter_half.specs.State.{learnt_by};
 
     /// Learns the first version of a batch whose floor is met; tells whether there was one. Out of memory
@@ -63,7 +63,7 @@ impl HalfState {
 
     /// Judges a packet whose floor is met, at the last packet's moment where its own is earlier. Out of memory
     /// nothing changes.
-    pub fn meet(&mut self, place: Place, item: &DataItem) -> Result<(), NoMemory>
+    pub fn meet(&mut self, place: Place, item: &DataItem<'p>) -> Result<(), NoMemory>
         requires floor { item.now.floor ≤ self.old.met }
         requires few { self.old.done < 2 ^ 61 }
 
@@ -89,7 +89,6 @@ impl HalfState {
             commands: self.met,
             verdict,
             place,
-            parked: item.parked,
         });
         self.handled = self.handled.and(item, &self.met);
         self.done += 1;
@@ -98,7 +97,11 @@ impl HalfState {
 }
 
 /// The verdict on a packet, at the later of its moment and that of the last one.
-fn verdict(counters: &mut Counters, version: &Version, packet: &Packet) -> Result<Verdict, NoMemory>
+fn verdict<'p>(
+    counters: &mut Counters,
+    version: &Version,
+    packet: &SentPacket<'p>,
+) -> Result<ToldVerdict<'p>, NoMemory>
     ensures verdict { (past : Past) (taken : ℕ) → StandsFor counters.old past taken → past.version ≡ version.now
         → AreFew past.charged
         → IfOk result (λ verdict. verdict ≡ (judged past (not_before (last_of counters.old) packet.now)).1) }
@@ -108,12 +111,25 @@ fn verdict(counters: &mut Counters, version: &Version, packet: &Packet) -> Resul
     ensures last { OnOk result (last_of counters.new ≡ Some (later (last_of counters.old) packet.now.moment)) }
     ensures unchanged { OnErr result (counters.new ≡ counters.old) }
 {
+    let moment = moment_for(counters, packet.moment);
+    let judged = judge(
+        counters,
+        version,
+        packet.number,
+        moment,
+        packet.way,
+        &packet.ip,
+    )?;
+    Ok(ToldVerdict::of(judged, &packet.ip))
+}
+
+/// The later of a moment and that of the last packet.
+fn moment_for(counters: &Counters, moment: Moment) -> Moment
+    ensures later { result ≡ later (last_of counters.now) moment }
+    ensures late { IfSome (last_of counters.now) (λ last. last ≤ result) }
+{
     match counters.last() {
-        Some(last) if last.0 > packet.moment.0 => {
-            let mut later = packet.try_clone()?;
-            later.moment = last;
-            handle(counters, version, &later)
-        }
-        _ => handle(counters, version, packet),
+        Some(last) if last.0 > moment.0 => last,
+        _ => moment,
     }
 }

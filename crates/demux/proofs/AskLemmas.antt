@@ -187,11 +187,11 @@ pub asks_step : (ies : List Element) (i : ℕ) (ie : Element) (asks new : List A
     → new ≡ first_asks (each_ask (take (i + 1) ies))
 asks_step ies i ie asks new ask below is so_far own more =
     more ∙ ap (λ before. with_ask before ask) so_far ∙ ap (with_ask (first_asks (each_ask (take i ies)))) own
-    ∙ sym (asks-push (take i ies) ie) ∙ ap (λ front. first_asks (each_ask front)) (sym (take_more ies i ie below is))
+    ∙ sym (asks-push (take i ies) ie) ∙ ap (λ prefix. first_asks (each_ask prefix)) (sym (take_more ies i ie below is))
 
 pub each_step : (ies : List Element) (i : ℕ) (ie : Element) (ask : Option Ask) → i < length ies → ie ≡ get_or ies i ie
     → AllByRecursion IsAsk (each_ask (take i ies)) → ask ≡ ask_at ie → IfSome ask IsAsk
     → AllByRecursion IsAsk (each_ask (take (i + 1) ies))
 each_step ies i ie ask below is each own valid =
-    subst (λ front. AllByRecursion IsAsk (each_ask front)) (sym (take_more ies i ie below is))
+    subst (λ prefix. AllByRecursion IsAsk (each_ask prefix)) (sym (take_more ies i ie below is))
     (each-push (take i ies) ie each (subst (λ asked. IfSome asked IsAsk) own valid))

@@ -1,30 +1,28 @@
 -- The numbers that a command takes of the elements of a message: those of one octet are below 256, and an address is
 -- below 2^32.
-use Rattle.std.proofs.Common.{ℕ, ◌+◌, ◌-◌, ◌*◌, ◌/◌, ◌%◌, ◌<◌, length, ◌^◌, ◌==◌, ◌||◌, Bool, true, false, nat_lt, nat_le, cond, List, [], ◌∷◌, Option, Some, None, arith}
+use Rattle.std.proofs.Common.{ℕ, ◌+◌, ◌-◌, ◌%◌, ◌<◌, length, ◌^◌, ◌==◌, ◌||◌, Bool, true, false, nat_lt, nat_le, cond, List, [], ◌∷◌, Option, Some, None, arith}
 use Rattle.std.specs.Prelude.{IfSome, Result, Ok, Err, slice_index}
 use Rattle.std.specs.List.{AllByRecursion, cons_option, filter_map, find}
 use Rattle.std.specs.Option.{option_and_then, option_map, option_or}
 use Rattle.gtpv2_ie.specs.Context.{context_with, ebi_value, fteid_value, first_of, qos_value}
 use Rattle.gtpv2_ie.specs.Element.{Element}
-use Rattle.gtpv2_ie.specs.Fields.{arp_bits, cause_of, ebi_of, fteid_of, octets_of, paa_of, pdn_of, qos_of}
+use Rattle.gtpv2_ie.specs.Fields.{arp_bits, cause_of, ebi_of, fteid_of, octets_of, paa_of, pdn_of}
 use Rattle.gtpv2_ie.specs.Imsi.{imsi_of}
 use Rattle.gtpv2_ie.specs.Kind.{kind_at, least_len, no_context, row}
 use Rattle.gtpv2_ie.specs.Stand.{ies_of, value_in}
 use Rattle.gtpv2_ie.specs.Value.{context_in, context_of, element_at, inner_elements, kind_value, value_at}
-use Rattle.gtpv2_ie.specs.declared.cause.CauseIe.{CauseIe}
 use Rattle.gtpv2_ie.specs.declared.context.Context.{Context}
 use Rattle.gtpv2_ie.specs.declared.fault.IeBad.{IeBad}
 use Rattle.gtpv2_ie.specs.declared.fteid.Fteid.{Fteid}
 use Rattle.gtpv2_ie.specs.declared.kind.IeKind.{IeKind}
 use Rattle.gtpv2_ie.specs.declared.kind.IeKind.TheVariants as kinds
-use Rattle.gtpv2_ie.specs.declared.qos.QosIe.{QosIe}
 use Rattle.gtpv2_ie.specs.declared.raw.RawIe.{RawIe}
 use Rattle.gtpv2_ie.specs.declared.value.IeValue.{IeValue}
 use Rattle.gtpv2_ie.specs.declared.value.IeValue.TheVariants as values
 use Rattle.gtpv2_msg.specs.Elements.{known_of, read_ies}
 use Rattle.gtpv2_msg.specs.Header.{body_of, end_of, has_teid, header_len}
 use Rattle.wire_octets.specs.Numbers.{AreOctets, be32_at}
-use Rattle.demux.specs.Message.{elements_in, elements_where, message_in}
+use Rattle.demux.specs.Message.{elements_where, message_in}
 use Rattle.demux.specs.Ranges.{IsOctet}
 use Rattle.demux.proofs.MessagesSmall.{QosIn}
 use Rattle.demux.proofs.Small.{Small, dropped, index_small, taken}

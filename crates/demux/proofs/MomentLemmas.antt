@@ -27,7 +27,7 @@ use Rattle.demux.specs.declared.decision.Decision.{Decision}
 use Rattle.demux.specs.declared.decision.Decision.TheVariants.{Move, Note}
 use Rattle.demux.specs.declared.decision.Whose.{Whose}
 use Rattle.demux.specs.declared.packet.LentPacket.{LentPacket}
-use Rattle.demux.specs.Asked.{Asked, Whom, Wish, command, packet, move, noted, note, admission, of}
+use Rattle.demux.specs.Asked.{Asked, Wish, command, packet, move, noted, note, admission, of}
 use Rattle.demux.specs.Ends.{addressee, bearer_end, control_slot}
 use Rattle.demux.specs.Line.{asked, kind_asks}
 use Rattle.demux.specs.Message.{message_in}

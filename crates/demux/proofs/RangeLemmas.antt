@@ -1,10 +1,9 @@
 -- What a line in its ranges means is in its ranges.
-use Rattle.std.proofs.Common.{◌≡◌, ℕ, zero, suc, ◌*◌, ◌++◌, ◌+◌, ◌%◌, ◌<◌, ◌≤◌, ◌^◌, ◌==◌, ◌||◌, nat_lt, Bool, true, false, cond, if◌then◌else◌, List, [], ◌∷◌, length, take, drop, codes, Option, Some, None, All, refl, sym, subst, arith}
+use Rattle.std.proofs.Common.{◌≡◌, ℕ, zero, suc, ◌*◌, ◌++◌, ◌+◌, ◌<◌, ◌≤◌, ◌^◌, ◌==◌, ◌||◌, nat_lt, Bool, true, false, if◌then◌else◌, List, [], ◌∷◌, length, take, drop, codes, Option, Some, None, All, refl, arith}
 use Rattle.std.specs.Prelude.{IfSome, unwrap_or, slice_index}
 use Rattle.std.specs.List.{AllByRecursion, filter_map, find}
 use Rattle.std.specs.Option.{is_some, option_and_then, option_map}
 use Rattle.std.proofs.lemmas.List.Elements.{All-from_recursion}
-use Rattle.bearer_state.specs.declared.ask.Ask.{Ask}
 use Rattle.control_steps.specs.Messages.{cause_alone}
 use Rattle.control_steps.specs.declared.cause.TheConstants.{CONTEXT_NOT_FOUND}
 use Rattle.control_steps.specs.declared.command.CommandKind.{CommandKind}
@@ -25,7 +24,6 @@ use Rattle.gtpv2_ie.specs.declared.cause_value.TheConstants.{ALL_DYNAMIC_ADDRESS
 use Rattle.gtpv2_ie.specs.declared.context.Context.{Context}
 use Rattle.gtpv2_ie.specs.declared.fteid.Fteid.{Fteid}
 use Rattle.gtpv2_ie.specs.declared.kind.IeKind.TheVariants as kinds
-use Rattle.gtpv2_ie.specs.declared.qos.QosIe.{QosIe}
 use Rattle.gtpv2_ie.specs.declared.value.IeValue.{IeValue}
 use Rattle.gtpv2_ie.specs.declared.value.IeValue.TheVariants as values
 use Rattle.gtpv2_msg.specs.Header.{kind_of, seq_of}
@@ -55,8 +53,8 @@ use Rattle.tft_codec.proofs.TftLemmas.{tft_taken}
 use Rattle.trace_lines.specs.Line.{IsKind, IsLine, Line}
 use Rattle.trace_lines.specs.Kind.{LineKind}
 use Rattle.trace_lines.specs.Kind as kind
-use Rattle.wire_octets.specs.Numbers.{AreOctets, be16_at, be16_octets, be32_octets}
-use Rattle.demux.specs.Asked.{Asked, Whom, Wish, command, packet, move, noted, note, admission, of}
+use Rattle.wire_octets.specs.Numbers.{AreOctets, be16_octets, be32_octets}
+use Rattle.demux.specs.Asked.{Asked, Wish, command, packet, move, noted, note, admission, of}
 use Rattle.demux.specs.Destinations.{destination}
 use Rattle.demux.specs.Ends.{addressee, bearer_end, control_slot}
 use Rattle.demux.specs.Line.{asked, kind_asks}
@@ -64,10 +62,9 @@ use Rattle.demux.specs.Message.{message_in}
 use Rattle.demux.specs.Mme.{asked_where, create_asked, create_or_unexpected, echo_note, echo_response, for_slot, message_asked, mme_asked, no_context_note, no_context_reply, or_unexpected, pool_note, session_asked, session_or_unexpected}
 use Rattle.demux.specs.Instructions.{templated, templated_where}
 use Rattle.demux.specs.Ranges.{HasAddress, IsAskInRange, IsCommandInRange, IsInRange, IsOctet, IsPacketInRange, IsSlot}
-use Rattle.demux.specs.Requests.{ask_of, asks_in, assigned, bearer_answer, cause_in, context_in, creation, each_ask, enb_in, imsi_in, mme_in, modification, pdn_in, peer_of, qos_of, rates_in, session_command}
+use Rattle.demux.specs.Requests.{ask_of, asks_in, assigned, bearer_answer, cause_in, context_in, creation, each_ask, enb_in, imsi_in, mme_in, modification, pdn_in, peer_of, rates_in, session_command}
 use Rattle.demux.specs.Resolved.{IsDecision, IsDue, IsNote, admitting, decided, found_in, resolved, slot_of, whose_in, wished_by}
-use Rattle.demux.specs.Texts.{move_note}
-use Rattle.demux.specs.Trace.{Meaning, book_of, decisions, meaning, meant}
+use Rattle.demux.specs.Trace.{book_of, decisions, meaning, meant}
 use Rattle.demux.specs.Tunnel.{carried_where, delivered_to, kind_asked, lent, packet_asked, packet_where, tunnel_asked, tunnel_echo_note, tunnel_where, tunnelled, tunnelled_to, unknown_note}
 use Rattle.demux.specs.declared.decision.Decision.{Decision}
 use Rattle.demux.specs.declared.decision.Decision.TheVariants.{Command, Move, Note, Packet}
@@ -79,7 +76,7 @@ use Rattle.demux.proofs.AskLemmas.{each_first}
 use Rattle.demux.proofs.BookBound.{book_most}
 use Rattle.demux.proofs.ElementRanges.{ContextFits, ElementFits, HasFteidAddress, ValueFits, always, cons_all, find_some, map_some, message_fits, test_some, then_some}
 use Rattle.demux.proofs.FaultRanges.{FaultFits, fault_fits}
-use Rattle.demux.proofs.MessagesSmall.{ElementIn, QosIn, message_small}
+use Rattle.demux.proofs.MessagesSmall.{QosIn, message_small}
 use Rattle.demux.proofs.NotesPrint.{carried_is_note, message_is_note, move_is_note, packet_is_note, template_is_note, tunnel_is_note, words_are_note, words_replied, words_told}
 use Rattle.demux.proofs.ResolvedLemmas.{is_decision}
 use Rattle.demux.proofs.Small.{Small, be16_small, be32_small, both, dropped, index_small, small_octets, taken}

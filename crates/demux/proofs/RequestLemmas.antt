@@ -49,16 +49,16 @@ context_is (values.Context context) is = refl
 context_is value is = absurd cc
 
 -- what the first element of a kind holds
-front : (a b : Bool) → (a && b) ≡ true → a ≡ true
-front true b is = refl
-front false b is = absurd cc
+left_holds : (a b : Bool) → (a && b) ≡ true → a ≡ true
+left_holds true b is = refl
+left_holds false b is = absurd cc
 
 there : {X : Type 0} (of : IeValue → Option X) (kind : IeKind) (ies : List Element) (test : Bool) (ie : Element)
     → ((value : IeValue) → IsOf kind value → IsSome (of value)) → is_of kind 0 ie ≡ test
     → (test ≡ false → IsSome (option_and_then of (first_value kind 0 ies)))
     → IsSome (option_and_then of (first_value kind 0 (ie ∷ ies)))
 there of kind ies true ie is here later =
-    rw here (is ie.value (front (eqb (type_octet (kind_of ie.value)) (type_octet kind)) (eqb ie.instance 0) here))
+    rw here (is ie.value (left_holds (eqb (type_octet (kind_of ie.value)) (type_octet kind)) (eqb ie.instance 0) here))
 there of kind ies false ie is here later = rw here (later refl)
 
 has_value : {X : Type 0} (of : IeValue → Option X) (kind : IeKind)

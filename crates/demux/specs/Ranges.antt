@@ -1,5 +1,5 @@
 -- The ranges of what a line means.
-use Rattle.std.specs.Prelude.{ℕ, ◌<◌, ◌≤◌, ◌^◌, List, length, All, IfSome}
+use Rattle.std.specs.Prelude.{ℕ, ◌<◌, ◌≤◌, ◌^◌, length, All, IfSome}
 use Rattle.bearer_state.specs.declared.ask.Ask.{Ask}
 use Rattle.control_steps.specs.declared.command.CommandKind.{CommandKind}
 use Rattle.control_steps.specs.declared.command.CommandKind.TheVariants as commands

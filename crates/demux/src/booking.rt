@@ -1,6 +1,5 @@
 //! Who is in the book.
-ghost use Rattle.std.specs.Prelude.{◌≡◌, ◌<◌, length, IfOk, IfSome, IsNone, OnOk, OnErr, Some, None};
-ghost use Rattle.address_book.specs.Book.{slot_in};
+ghost use Rattle.std.specs.Prelude.{◌≡◌, ◌<◌, IfOk, OnOk, OnErr, Some, None};
 ghost use Rattle.demux.specs.Asked as asked;
 ghost use Rattle.demux.specs.Resolved.{found_in, whose_in, slot_of, book_with, IsDue};
 

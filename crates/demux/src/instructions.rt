@@ -1,5 +1,5 @@
 //! What an instruction of the operator means.
-ghost use Rattle.std.specs.Prelude.{◌≡◌, ℕ, ◌<◌, ◌≤◌, ◌^◌, List, codes, Some, None, IfOk, MatchResult};
+ghost use Rattle.std.specs.Prelude.{◌≡◌, ℕ, ◌<◌, codes, Some, None, IfOk, MatchResult};
 ghost use Rattle.tft_codec.specs.declared.tft.Tft.{Tft};
 ghost use Rattle.tft_codec.specs.Reading.{tft_at};
 ghost use Rattle.tft_codec.specs.Refusal.{first_fault};

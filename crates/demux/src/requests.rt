@@ -1,5 +1,5 @@
 //! What a message of the MME asks, by its elements (TS 29.274, 7.2).
-ghost use Rattle.std.specs.Prelude.{◌≡◌, ◌<◌, ◌≤◌, ◌^◌, IfSome, IfOk, option_copied};
+ghost use Rattle.std.specs.Prelude.{◌≡◌, ◌<◌, ◌≤◌, IfSome, IfOk, option_copied};
 ghost use Rattle.gtpv2_ie.specs.Validity.{IsValue, IsContext, IsEbi, IsQos};
 ghost use Rattle.gtpv2_msg.specs.Lookup.{is_of, first_value};
 ghost use Rattle.bearer_state.specs.Bearer as bearers;

@@ -2,7 +2,6 @@
 ghost use Rattle.std.specs.Prelude.{◌≡◌, ◌+◌, ◌≤◌, ◌++◌, ℕ, [], Bool, List, None, MatchBool, length, OnOk};
 ghost use Rattle.trace_lines.specs.Line.{Line};
 ghost use Rattle.trace_lines.specs.declared.bad.LineBad.{LineBad};
-ghost use Rattle.lawful_run.specs.Cut.{IsCut};
 ghost use Rattle.lawful_run.specs.Merging.{Histories};
 ghost use Rattle.lawful_run.specs.Outcomes.{opens};
 ghost use Rattle.lawful_run.specs.Run.{by_slot};
@@ -11,7 +10,6 @@ ghost use Rattle.epoch_schedule.specs.TurnsTold.{AreWorkers};
 ghost use Rattle.at_rest.specs.Meant.{AreStanding};
 ghost use Rattle.epoch_drive.specs.Taken.{HasTaken};
 ghost use Rattle.trace_run.specs.Entries.{charges_text};
-ghost use Rattle.trace_run.specs.Reporting.{IsDue, SaysEpochs};
 ghost use Rattle.drive_command.specs.Driven.{IsDrivenReport, turns_in};
 ghost use Rattle.drive_command.specs.Standing.{Drove, DroveAll, DroveOn, schedule_of};
 
@@ -136,7 +134,7 @@ impl Reporter for Driver {
 
     ghost represents = { Drove };
 
-    fn take(&mut self, line: &TraceLine, _text: &mut Text) -> Result<(), AllocError> {
+    fn take(&mut self, line: &mut TraceLine, _text: &mut Text) -> Result<(), AllocError> {
         self.gateway.take(&mut self.lines, line)?;
         Ok(())
     }

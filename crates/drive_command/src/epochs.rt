@@ -1,5 +1,5 @@
 //! An epoch, driven and told.
-ghost use Rattle.std.specs.Prelude.{◌≡◌, ◌++◌, Bool, List, OnOk};
+ghost use Rattle.std.specs.Prelude.{◌≡◌, ◌++◌, List, OnOk};
 ghost use Rattle.trace_lines.specs.Line.{Line};
 ghost use Rattle.lawful_run.specs.Report.{EpochReport};
 ghost use Rattle.epoch_schedule.specs.TurnsTold.{AreWorkers};

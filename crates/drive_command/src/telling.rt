@@ -1,5 +1,5 @@
 //! The text of what is told of the lines of an epoch.
-ghost use Rattle.std.specs.Prelude.{◌≡◌, ◌++◌, ◌∷◌, map, OnOk};
+ghost use Rattle.std.specs.Prelude.{◌≡◌, ◌++◌, map, OnOk};
 ghost use Rattle.epoch_drive.specs.Telling.{AreShort, IsShortEntry, line_told};
 ghost use Rattle.report_lines.specs.declared.entry.Entry.TheVariants as entry;
 ghost use Rattle.report_lines.specs.Text.{line_shown};

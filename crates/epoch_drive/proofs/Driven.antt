@@ -5,7 +5,6 @@ use Rattle.std.proofs.lemmas.List.{get_or-map, get_or_past, length-map, take_all
 use Rattle.demux.specs.Trace.{Meaning}
 use Rattle.gate_model.specs.Events.{commands_of, packets_of}
 use Rattle.gate_model.specs.declared.event.Event.{Event}
-use Rattle.report_lines.specs.declared.entry.ChargeEntry.TheVariants.{R}
 use Rattle.report_lines.specs.declared.entry.LineEntry.{LineEntry}
 use Rattle.lawful_run.specs.Accepted as accepted
 use Rattle.lawful_run.specs.Bounds.{count_before}

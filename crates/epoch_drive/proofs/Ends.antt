@@ -1,8 +1,8 @@
 -- Subscribers can do their shares, and are at rest behind them.
-use Rattle.std.proofs.Common.{◌≡◌, ℕ, suc, ◌+◌, ◌-◌, ◌<◌, ◌≤◌, ◌^◌, List, [], ◌∷◌, ◌++◌, map, length, take, drop, get_or, refl, sym, ap, subst, ◌∙◌, arith, length-append}
+use Rattle.std.proofs.Common.{◌≡◌, ℕ, suc, ◌+◌, ◌<◌, ◌≤◌, ◌^◌, List, [], ◌∷◌, ◌++◌, length, get_or, refl, sym, ap, subst, ◌∙◌, arith, length-append}
 use Rattle.std.proofs.Math.Logic.{∥∥₁_elim, ∥∥₁_map}
 use Rattle.std.proofs.Props.{props}
-use Rattle.std.proofs.lemmas.List.{get_or-map, length-map, take-append-drop}
+use Rattle.std.proofs.lemmas.List.{get_or-map, length-map}
 use Rattle.std.specs.Borrow.{Bor}
 use Rattle.trace_lines.specs.Line.{Line}
 use Rattle.control_steps.specs.declared.command.CommandKind.{CommandKind}
@@ -12,8 +12,6 @@ use Rattle.gate_model.specs.Events.{commands_of, packets_of}
 use Rattle.gate_model.specs.Versions.{SessionsKeepTheirSlot}
 use Rattle.gate_model.specs.declared.event.Event.{Event}
 use Rattle.gate_model.specs.declared.event.Event.TheVariants as event
-use Rattle.demux.specs.Packets.{numbered}
-use Rattle.lawful_run.specs.Merging.{merged}
 use Rattle.lawful_run.specs.Accepted as accepted
 use Rattle.lawful_run.specs.LinesTold.{LineTold}
 use Rattle.lawful_run.proofs.EventByEvent.{ordered_length}

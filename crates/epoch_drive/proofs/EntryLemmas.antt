@@ -1,6 +1,5 @@
 -- Entries that are filled one after another.
 use Rattle.std.proofs.Common.{◌≡◌, ℕ, ◌+◌, ◌==◌, ◌<◌, Bool, true, false, cond, Option, Some, None, IfSome, List, [], ◌∷◌, ◌++◌, map, length, drop, get_or, set, get_or-set_same, get_or-set_other, length-set, refl, sym, ap, subst, ◌∙◌, inl, inr, arith, append_assoc, append-nil}
-use Rattle.std.specs.Borrow.{Bor}
 use Rattle.std.specs.Prelude.{option_to_list}
 use Rattle.std.proofs.lemmas.Bool.{cases_eq, cases_lt, eq-eqb, eqb-true, ne_eqb}
 use Rattle.std.proofs.lemmas.List.{drop-map, drop_more, get_or-map, get_or_past, length-map, map_push, nil_from_length, length-drop}
@@ -8,7 +7,6 @@ use Rattle.std.proofs.lemmas.List.Elements.{All-drop, All-head, All-set}
 use Rattle.demux.specs.Trace.{Meaning}
 use Rattle.report_lines.specs.Lent.{IsShort}
 use Rattle.report_lines.specs.declared.entry.LineEntry.{LineEntry}
-use Rattle.report_lines.specs.declared.entry.LineEntry.TheVariants as line
 use Rattle.lawful_run.specs.Filling.{Mets, Replies, fill, filled, met_slot, others_of, replied_slot}
 use Rattle.epoch_schedule.specs.Front.{Outcome}
 use Rattle.slot_execution.specs.Replaying.{AreShort}
@@ -83,7 +81,7 @@ kept f xs own x y low is same slot =
     ∙ same_or (own == slot) (get_or (map f xs) own []) (get_or (map f xs) slot [])
     (λ yes. ap (λ k. get_or (map f xs) k []) (eqb-true own slot yes))
 
--- what is taken from the front of a list
+-- what is taken from the start of a list
 none_left : {X : Type 0} (xs ys : List X) → xs ≡ [] ++ ys → ys ≡ drop 1 xs → xs ≡ []
 none_left xs ys is rest =
     nil_from_length xs (omega (arith, ap length is, ap length rest, length-drop 1 xs))
@@ -245,14 +243,3 @@ fills_refused_packet answers n slot taken parked is =
       still = λ all. all;
     } in
     subst (λ t. FillsNext answers answers (open_packet n slot t parked) (entries.Refusal n slot true)) (sym is) fills
-
-pub fills_note : (answers : List SlotReplays) (n : ℕ) (text : Bor (List ℕ))
-    → FillsNext answers answers (line.N (record { line = n; note = text.now })) (entries.Note n text)
-fills_note answers n text = record {
-  filled_so = refl;
-  many = refl;
-  replies = λ k. refl;
-  mets = λ k. refl;
-  short = λ all. tt;
-  still = λ all. all;
-}

@@ -20,7 +20,6 @@ use Rattle.slot_execution.specs.declared.replayed.NumberedVerdict.{NumberedVerdi
 use Rattle.slot_execution.specs.declared.replayed.NumberedReply as told
 use Rattle.packet_steps.specs.Lent.{verdict_of}
 use Rattle.epoch_drive.specs.Joins.{met_so, replied_so}
-use Rattle.lawful_run.specs.Opened.{open_command, open_packet}
 use Rattle.epoch_drive.specs.DrivenOpened.{open_entries, open_entry}
 use Rattle.epoch_drive.specs.Opened.{opened}
 use Rattle.epoch_drive.specs.Shares.{packets_alone, packets_lent}

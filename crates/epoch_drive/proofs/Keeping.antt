@@ -1,93 +1,31 @@
 -- Lines that are taken one after another.
-use Rattle.std.proofs.Common.{◌≡◌, ℕ, ◌+◌, ◌-◌, ◌≤◌, List, [], ◌∷◌, ◌++◌, map, length, take, drop, slice_range, refl, sym, ap, subst, ◌∙◌, arith, length-append, append-nil}
+use Rattle.std.proofs.Common.{◌≡◌, ℕ, List, [], ◌∷◌, ◌++◌, map, length, refl, sym, ap, subst, ◌∙◌, append-nil}
 use Rattle.std.specs.List.{All, flat_map}
-use Rattle.std.proofs.lemmas.List.{drop-append-le, drop_at, flat_map_more, length-drop, length-map, map_push, take-append-le, take_all}
+use Rattle.std.proofs.lemmas.List.{flat_map_more, length-map, map_push}
 use Rattle.std.proofs.lemmas.List.Elements.{All-cons, All-head, All-nil, All-push, All-tail, All-weaker}
-use Rattle.ipv4_packet.specs.Packet.{IsPacket}
 use Rattle.trace_lines.specs.Line.{Line}
 use Rattle.demux.specs.Meant.{meaning_of}
-use Rattle.demux.specs.Trace.{Meaning, packet}
+use Rattle.demux.specs.Trace.{Meaning}
 use Rattle.demux.specs.declared.meant.Meant.{Meant}
-use Rattle.demux.specs.declared.packet.LentPacket.{LentPacket}
 use Rattle.epoch_schedule.specs.Lines.{asked}
 use Rattle.epoch_schedule.specs.declared.ask.LineAsk.{LineAsk}
 use Rattle.epoch_drive.specs.Driven.{asks_of}
-use Rattle.subscriber.specs.Standing.{SubscriberState}
 use Rattle.at_rest.specs.Rest.{Rest}
-use Rattle.epoch_drive.specs.Kept.{Adds, AreBounds, AreKept, AreNone, IsPlaced, Keeps, KeepsLine, IsPlacedPacket, Places, meaning_in, meanings, packet_in, packet_octets}
+use Rattle.slot_execution.specs.Kept.{IsPlaced, meaning_in}
+use Rattle.epoch_drive.specs.Kept.{Adds, AreKept, AreNone, Keeps, KeepsLine, packet_octets}
 use Rattle.at_rest.specs.Coming.{latest_behind}
 use Rattle.at_rest.specs.Meant.{IsWithin, Turned}
 use Rattle.epoch_drive.specs.Turned.{TurnedAll}
-use Rattle.epoch_drive.specs.Taken.{AreTaken, HasTaken, IsResting}
+use Rattle.epoch_drive.specs.Taken.{HasTaken, IsResting}
 use Rattle.epoch_drive.specs.declared.gateway.DrivenGateway.{DrivenGateway}
 use Rattle.epoch_drive.specs.declared.kept.EpochLines.{EpochLines}
-use Rattle.epoch_drive.specs.declared.kept.KeptLine.{KeptLine}
-use Rattle.epoch_drive.specs.declared.kept.KeptLine.TheVariants as kept
-use Rattle.epoch_drive.specs.declared.kept.KeptPacket.{KeptPacket}
+use Rattle.slot_execution.specs.declared.kept.KeptMeaning.{KeptMeaning}
+use Rattle.slot_execution.specs.declared.kept.KeptMeaning.TheVariants as kept
+use Rattle.slot_execution.proofs.KeptLemmas.{meanings_stay, placed_still}
 use Rattle.epoch_drive.proofs.Turning.{turned_more, turned_none}
 
--- a part of octets stays where more come behind them
-part_stays : (octets more : List ℕ) (from to : ℕ) → from ≤ to → to ≤ length octets
-    → slice_range (octets ++ more) from to ≡ slice_range octets from to
-part_stays octets more from to ordered within =
-    ap (take (to - from)) (drop-append-le from octets more (omega (arith, ordered, within)))
-    ∙ take-append-le (to - from) (drop from octets) more (omega (arith, ordered, within, length-drop from octets))
-
-packet_stays : (octets more : List ℕ) (p : KeptPacket) → IsPlacedPacket octets p
-    → packet_in (octets ++ more) p ≡ packet_in octets p
-packet_stays octets more p is =
-    λ i. record { moment = p.moment; way = p.way; ip = part_stays octets more p.from p.to is.ordered is.within i }
-
-stands_still : (octets more : List ℕ) (p : KeptPacket) → IsPlacedPacket octets p → IsPlacedPacket (octets ++ more) p
-stands_still octets more p is = record {
-  ordered = is.ordered;
-  within = omega (arith, is.within, length-append octets more);
-  whole = subst IsPacket (sym (part_stays octets more p.from p.to is.ordered is.within)) is.whole;
-}
-
-placed_still : (octets more : List ℕ) (it : KeptLine) → IsPlaced octets it → IsPlaced (octets ++ more) it
-placed_still octets more (kept.Command slot c) is = tt
-placed_still octets more (kept.Packet slot p) is = stands_still octets more p is
-placed_still octets more (kept.Move slot slice text) is = tt
-placed_still octets more (kept.Note text) is = tt
-
-meaning_stays : (octets more : List ℕ) (it : KeptLine) → IsPlaced octets it
-    → meaning_in (octets ++ more) it ≡ meaning_in octets it
-meaning_stays octets more (kept.Command slot c) is = refl
-meaning_stays octets more (kept.Packet slot p) is = ap (λ own. packet slot own) (packet_stays octets more p is)
-meaning_stays octets more (kept.Move slot slice text) is = refl
-meaning_stays octets more (kept.Note text) is = refl
-
-meanings_stay : (octets more : List ℕ) (all : List KeptLine) → All (IsPlaced octets) all
-    → map (meaning_in (octets ++ more)) all ≡ map (meaning_in octets) all
-meanings_stay octets more [] are = refl
-meanings_stay octets more (it ∷ all) are =
-    let here = meaning_stays octets more it (All-head (IsPlaced octets) it all are) in
-    let rest = meanings_stay octets more all (All-tail (IsPlaced octets) it all are) in
-    λ i. here i ∷ rest i
-
--- a packet that is put behind the others
-pub places_so : (old new : List ℕ) (p : LentPacket) (placed : KeptPacket) → IsPacket p.ip → new ≡ old ++ p.ip
-    → placed.moment ≡ p.moment → placed.way ≡ p.way → placed.from ≡ length old → placed.to ≡ length new
-    → Places old new p placed
-places_so old new p placed whole grown moment way from to =
-    let count : length new ≡ length old + length p.ip = ap length grown ∙ length-append old p.ip in
-    let part : slice_range new placed.from placed.to ≡ p.ip =
-    ap (λ xs. slice_range xs placed.from placed.to) grown
-    ∙ ap (take (placed.to - placed.from)) (drop_at old p.ip placed.from (sym from))
-    ∙ take_all (placed.to - placed.from) p.ip (omega (arith, from, to, count)) in
-    record {
-      grown = grown;
-      is = λ i. record { moment = moment i; way = way i; ip = part i };
-      stands = record {
-        ordered = omega (arith, from, to, count);
-        within = omega (arith, to);
-        whole = subst IsPacket (sym part) whole;
-      };
-    }
-
 -- a line that is added is kept
-pub keeps_line : (old middle new : EpochLines) (now : Meant) (it : KeptLine)
+pub keeps_line : (old middle new : EpochLines) (now : Meant) (it : KeptMeaning)
     → Keeps old.octets.items middle.octets.items now it → middle.lines.items ≡ old.lines.items
     → middle.asks.items ≡ old.asks.items → middle.bounds.items ≡ old.bounds.items
     → Adds middle new it → KeepsLine old new now
@@ -102,7 +40,7 @@ keeps_line old middle new now it keeps same_lines same_asks same_bounds adds = r
 }
 
 -- where no octets come with it
-pub adds_alone : (old new : EpochLines) (now : Meant) (it : KeptLine)
+pub adds_alone : (old new : EpochLines) (now : Meant) (it : KeptMeaning)
     → meaning_in old.octets.items it ≡ meaning_of now → IsPlaced old.octets.items it
     → packet_octets (meaning_of now) ≡ [] → Adds old new it → KeepsLine old new now
 adds_alone old new now it means placed alone adds =
@@ -113,7 +51,7 @@ adds_alone old new now it means placed alone adds =
     }) refl refl refl adds
 
 -- one line more is kept
-kept_more : (made : List Meaning) (old new : EpochLines) (it : KeptLine) (ask : LineAsk) (more : List ℕ)
+kept_more : (made : List Meaning) (old new : EpochLines) (it : KeptMeaning) (ask : LineAsk) (more : List ℕ)
     → AreKept made old → new.octets.items ≡ old.octets.items ++ more
     → packet_octets (meaning_in new.octets.items it) ≡ more → new.lines.items ≡ old.lines.items ++ it ∷ []
     → new.asks.items ≡ old.asks.items ++ ask ∷ [] → IsPlaced new.octets.items it
@@ -197,14 +135,14 @@ lines_begin rest gateway lines is none = record {
 }
 
 -- whose slots they are hangs on no octets
-within_any : (slots : ℕ) (octets others : List ℕ) (it : KeptLine) → IsWithin slots (meaning_in octets it)
+within_any : (slots : ℕ) (octets others : List ℕ) (it : KeptMeaning) → IsWithin slots (meaning_in octets it)
     → IsWithin slots (meaning_in others it)
 within_any slots octets others (kept.Command slot c) is = is
 within_any slots octets others (kept.Packet slot p) is = is
 within_any slots octets others (kept.Move slot slice text) is = is
 within_any slots octets others (kept.Note text) is = is
 
-pub all_within_any : (slots : ℕ) (octets others : List ℕ) (all : List KeptLine)
+pub all_within_any : (slots : ℕ) (octets others : List ℕ) (all : List KeptMeaning)
     → All (IsWithin slots) (map (meaning_in octets) all) → All (IsWithin slots) (map (meaning_in others) all)
 all_within_any slots octets others [] are = All-nil (IsWithin slots)
 all_within_any slots octets others (it ∷ all) are =
@@ -215,12 +153,12 @@ all_within_any slots octets others (it ∷ all) are =
     (All-tail (IsWithin slots) (meaning_in octets it) (map (meaning_in octets) all) are))
 
 -- what is lent of the lines means the same
-pub mean_lent : (made : List Meaning) (lines : EpochLines) (all : List KeptLine) (octets : List ℕ) → AreKept made lines
+pub mean_lent : (made : List Meaning) (lines : EpochLines) (all : List KeptMeaning) (octets : List ℕ) → AreKept made lines
     → all ≡ lines.lines.items → octets ≡ lines.octets.items → map (meaning_in octets) all ≡ made
 mean_lent made lines all octets are same_lines same_octets =
     ap (map (meaning_in octets)) same_lines ∙ ap (λ xs. map (meaning_in xs) lines.lines.items) same_octets ∙ are.mean
 
-pub placed_lent : (made : List Meaning) (lines : EpochLines) (all : List KeptLine) (octets : List ℕ) → AreKept made lines
+pub placed_lent : (made : List Meaning) (lines : EpochLines) (all : List KeptMeaning) (octets : List ℕ) → AreKept made lines
     → all ≡ lines.lines.items → octets ≡ lines.octets.items → All (IsPlaced octets) all
 placed_lent made lines all octets are same_lines same_octets =
     subst (All (IsPlaced octets)) (sym same_lines)

@@ -89,59 +89,59 @@ own_first judged entries =
     ap (λ test. cons_option (cond test (Some (met_of judged)) None) (mets_told entries judged.slot))
     (eqb_same judged.slot)
 
-line_bounds : (slices room lane n : ℕ) (before : Histories) (all front later : List LineTold) (meaning : Meaning)
+line_bounds : (slices room lane n : ℕ) (before : Histories) (all prefix later : List LineTold) (meaning : Meaning)
     (entry : LineEntry) (entries : List LineEntry)
     → Answers n meaning entry
-    → all ≡ front ++ record { meaning = meaning; entry = entry } ∷ later
-    → Bounded before all front (record { meaning = meaning; entry = entry } ∷ later) (mets_told (entry ∷ entries))
-    → MeetsAs (sliced slices room lane) before front entry later
-    × Bounded before all (front ++ record { meaning = meaning; entry = entry } ∷ []) later (mets_told entries)
-line_bounds slices room lane n before all front later meaning entry entries answers is left =
-    answer_cases (λ meaning entry. all ≡ front ++ record { meaning = meaning; entry = entry } ∷ later
-    → Bounded before all front (record { meaning = meaning; entry = entry } ∷ later) (mets_told (entry ∷ entries))
-    → MeetsAs (sliced slices room lane) before front entry later
-    × Bounded before all (front ++ record { meaning = meaning; entry = entry } ∷ []) later (mets_told entries)) n
-    (λ text noted is left. (tt, λ slot. unmet slot _ _ _ front _ later (mets_told entries slot) refl (left slot)))
+    → all ≡ prefix ++ record { meaning = meaning; entry = entry } ∷ later
+    → Bounded before all prefix (record { meaning = meaning; entry = entry } ∷ later) (mets_told (entry ∷ entries))
+    → MeetsAs (sliced slices room lane) before prefix entry later
+    × Bounded before all (prefix ++ record { meaning = meaning; entry = entry } ∷ []) later (mets_told entries)
+line_bounds slices room lane n before all prefix later meaning entry entries answers is left =
+    answer_cases (λ meaning entry. all ≡ prefix ++ record { meaning = meaning; entry = entry } ∷ later
+    → Bounded before all prefix (record { meaning = meaning; entry = entry } ∷ later) (mets_told (entry ∷ entries))
+    → MeetsAs (sliced slices room lane) before prefix entry later
+    × Bounded before all (prefix ++ record { meaning = meaning; entry = entry } ∷ []) later (mets_told entries)) n
+    (λ text noted is left. (tt, λ slot. unmet slot _ _ _ prefix _ later (mets_told entries slot) refl (left slot)))
     (λ own slice text noted is left.
-    (tt, λ slot. unmet slot _ _ _ front _ later (mets_told entries slot) refl (left slot)))
-    (λ c answered is left. (tt, λ slot. unmet slot _ _ _ front _ later (mets_told entries slot) refl (left slot)))
-    (λ own c refused is left. (tt, λ slot. unmet slot _ _ _ front _ later (mets_told entries slot) refl (left slot)))
+    (tt, λ slot. unmet slot _ _ _ prefix _ later (mets_told entries slot) refl (left slot)))
+    (λ c answered is left. (tt, λ slot. unmet slot _ _ _ prefix _ later (mets_told entries slot) refl (left slot)))
+    (λ own c refused is left. (tt, λ slot. unmet slot _ _ _ prefix _ later (mets_told entries slot) refl (left slot)))
     (λ p judged is left. (
-      met_bounds slices room lane before front later p judged (met_of judged ∷ mets_told entries judged.slot)
+      met_bounds slices room lane before prefix later p judged (met_of judged ∷ mets_told entries judged.slot)
           (command_floors judged.slot (packets_before before judged.slot) [] all)
           (ap (command_floors judged.slot (packets_before before judged.slot) []) is)
           (subst (SlotLeft judged.slot (count_before before judged.slot) (packets_before before judged.slot)
-          (command_floors judged.slot (packets_before before judged.slot) [] all) front
+          (command_floors judged.slot (packets_before before judged.slot) [] all) prefix
           (record { meaning = packet judged.slot p; entry = line.P judged } ∷ later))
           (own_first judged entries) (left judged.slot)),
       λ slot. subst (SlotLeft slot (count_before before slot) (packets_before before slot)
           (command_floors slot (packets_before before slot) [] all)
-          (front ++ record { meaning = packet judged.slot p; entry = line.P judged } ∷ []) later)
+          (prefix ++ record { meaning = packet judged.slot p; entry = line.P judged } ∷ []) later)
           (drop-first (judged.slot == slot) (met_of judged) (mets_told entries slot))
           (slot_step (judged.slot == slot) slot (count_before before slot) (packets_before before slot)
-          (command_floors slot (packets_before before slot) [] all) front
+          (command_floors slot (packets_before before slot) [] all) prefix
           (record { meaning = packet judged.slot p; entry = line.P judged }) later
           (record { commands = judged.commands; packet = p }) (mets_told (line.P judged ∷ entries) slot)
           (map_some (judged.slot == slot) judged.commands p) (left slot)),
     ))
-    (λ own p refused is left. (tt, λ slot. unmet slot _ _ _ front _ later (mets_told entries slot) refl (left slot)))
+    (λ own p refused is left. (tt, λ slot. unmet slot _ _ _ prefix _ later (mets_told entries slot) refl (left slot)))
     meaning entry answers is left
 
-bounds_from : (slices room lane n : ℕ) (before : Histories) (all front : List LineTold) (made : List Meaning)
+bounds_from : (slices room lane n : ℕ) (before : Histories) (all prefix : List LineTold) (made : List Meaning)
     (entries : List LineEntry)
     → AnswersAll n made entries
-    → all ≡ front ++ lines_told made entries
-    → Bounded before all front (lines_told made entries) (mets_told entries)
-    → EachFrom (MeetsBounds (sliced slices room lane) before) front (lines_told made entries)
-bounds_from slices room lane n before all front [] entries each is left = tt
-bounds_from slices room lane n before all front (now ∷ made) [] each is left = tt
-bounds_from slices room lane n before all front (now ∷ made) (entry ∷ entries) each is left =
+    → all ≡ prefix ++ lines_told made entries
+    → Bounded before all prefix (lines_told made entries) (mets_told entries)
+    → EachFrom (MeetsBounds (sliced slices room lane) before) prefix (lines_told made entries)
+bounds_from slices room lane n before all prefix [] entries each is left = tt
+bounds_from slices room lane n before all prefix (now ∷ made) [] each is left = tt
+bounds_from slices room lane n before all prefix (now ∷ made) (entry ∷ entries) each is left =
     let told : LineTold = record { meaning = now; entry = entry } in
-    let here = line_bounds slices room lane n before all front (lines_told made entries) now entry entries each.0 is
+    let here = line_bounds slices room lane n before all prefix (lines_told made entries) now entry entries each.0 is
     left in (
       here.0,
-      bounds_from slices room lane (n + 1) before all (front ++ told ∷ []) made entries each.1
-          (is ∙ sym (append_assoc front (told ∷ []) (lines_told made entries))) here.1,
+      bounds_from slices room lane (n + 1) before all (prefix ++ told ∷ []) made entries each.1
+          (is ∙ sym (append_assoc prefix (told ∷ []) (lines_told made entries))) here.1,
     )
 
 -- counts of the world and counts of the entries
@@ -171,14 +171,14 @@ least_zip base (p ∷ packets) (m ∷ met) (t ∷ told) same many least =
           (λ k within. least (suc k) (omega (arith, within))),
     )
 
-all_front : (count base most : ℕ) (floors : List ℕ)
+all_prefix : (count base most : ℕ) (floors : List ℕ)
     → ((j : ℕ) → j < count → get_or floors j 0 ≤ most)
     → AllByRecursion (λ floor. floor ≤ base + most) (take count (map (λ (f : ℕ). base + f) floors))
-all_front zero base most floors low = tt
-all_front (suc count) base most [] low = tt
-all_front (suc count) base most (f ∷ floors) low =
+all_prefix zero base most floors low = tt
+all_prefix (suc count) base most [] low = tt
+all_prefix (suc count) base most (f ∷ floors) low =
     let here : f ≤ most = low 0 (omega arith) in
-    (omega (arith, here), all_front count base most floors (λ j within. low (suc j) (omega (arith, within))))
+    (omega (arith, here), all_prefix count base most floors (λ j within. low (suc j) (omega (arith, within))))
 
 most_each : (commands packets k : ℕ) (floors : List ℕ) (met : List Met) (told : List fill.Met)
     → map (λ (m : fill.Met). m.commands) told ≡ map (λ (m : Met). commands + m.commands) met
@@ -197,13 +197,13 @@ most_each commands packets k floors (m ∷ met) (t ∷ told) same numbers few lo
     let here : m.commands ≤ length floors = few 0 (omega arith) in
     let long = length-map floors (λ (f : ℕ). packets + f) in
     let n : t.commands - commands ≡ m.commands = omega (arith, count) in
-    let front = all_front m.commands packets k floors
+    let prefix = all_prefix m.commands packets k floors
     (λ j within. let at = low 0 j (omega arith) within in omega (arith, at)) in
     let all : AllByRecursion (λ floor. floor ≤ t.number)
     (take (t.commands - commands) (map (λ (f : ℕ). packets + f) floors)) =
     subst (λ c. AllByRecursion (λ floor. floor ≤ t.number) (take c (map (λ (f : ℕ). packets + f) floors))) (sym n)
     (subst (λ bound. AllByRecursion (λ floor. floor ≤ bound)
-    (take m.commands (map (λ (f : ℕ). packets + f) floors))) (sym number) front) in
+    (take m.commands (map (λ (f : ℕ). packets + f) floors))) (sym number) prefix) in
     let next : packets + k + 1 ≡ packets + (k + 1) = omega arith in (
       (
         omega (arith, count, here, long),

@@ -1,9 +1,9 @@
 -- A note behind an epoch's lines changes nothing that is told of them.
-use Rattle.std.proofs.Common.{◌≡◌, ℕ, zero, suc, true, false, min, replicate, ◌+◌, ◌-◌, ◌<◌, List, [], ◌∷◌, ◌++◌, Some, map, length, fold, drop, nat_le, cond, refl, sym, ap, ◌∙◌, arith}
+use Rattle.std.proofs.Common.{◌≡◌, ℕ, zero, suc, true, false, min, replicate, ◌+◌, ◌-◌, List, [], ◌∷◌, ◌++◌, Some, map, length, drop, nat_le, refl, sym, ap, ◌∙◌, arith}
 use Rattle.std.proofs.lemmas.List.{map-append}
 use Rattle.std.proofs.lemmas.List.Sums.{fold-append}
 use Rattle.std.specs.List.{prefix_len}
-use Rattle.demux.specs.Trace.{Meaning, command, packet, move, note}
+use Rattle.demux.specs.Trace.{Meaning, note}
 use Rattle.gate_model.specs.Events.{commands_of, packets_of}
 use Rattle.pc_base.specs.declared.packet.Place.TheVariants.{Closing}
 use Rattle.lawful_run.specs.Bounds.{count_before}
@@ -15,7 +15,7 @@ use Rattle.lawful_run.specs.Run.{by_slot}
 use Rattle.lawful_run.specs.Telling.{command_number, packet_number, commands_told, counted, reply_told, verdict_told}
 use Rattle.lawful_run.proofs.NotedEpoch.{answers_noted, commands_noted, entry_noted, events_noted, packets_noted}
 use Rattle.epoch_schedule.specs.Front as ask
-use Rattle.epoch_schedule.specs.Front.{back, control_back, control_home, data_back, data_home, control_ordered, control_offer_at, control_offer, data_ordered, data_offer_at, data_offer, drained, drain_at, drain, controls_home, controls_offered, datas_home, datas_offered, pumped}
+use Rattle.epoch_schedule.specs.Front.{back, control_back, control_home, data_back, data_home, control_ordered, control_offer_at, control_offer, data_ordered, data_offer_at, data_offer, drain_at, drain, controls_home, controls_offered, datas_home, datas_offered, pumped}
 use Rattle.epoch_schedule.specs.Halves.{close_one, closed}
 use Rattle.epoch_schedule.specs.Numbers.{times}
 use Rattle.epoch_schedule.specs.Schedule.{Driven, behind_line, behind_lines, line_of, outcomes, mets}

@@ -150,12 +150,12 @@ seen_once : (seen : Bool) (count : ℕ) → (seen ≡ true → 1 ≤ count) → 
 seen_once true count some = some refl
 seen_once false count some = omega arith
 
-lane_loaded : (lane : ℕ) (front : List LineTold) (now : LineTold) (tallies : Tallies)
-    → ((s : ℕ) → IsTally s (front ++ now ∷ []) (tallies s))
+lane_loaded : (lane : ℕ) (prefix : List LineTold) (now : LineTold) (tallies : Tallies)
+    → ((s : ℕ) → IsTally s (prefix ++ now ∷ []) (tallies s))
     → is_refused now.entry ≡ true → is_move now.meaning ≡ false
-    → LaneFull lane tallies → lane ≤ lane_load front now
-lane_loaded lane front now tallies are refused still full =
-    let all : List LineTold = front ++ now ∷ [] in
+    → LaneFull lane tallies → lane ≤ lane_load prefix now
+lane_loaded lane prefix now tallies are refused still full =
+    let all : List LineTold = prefix ++ now ∷ [] in
     let packets = filter_map packet_slot all in
     let slots = once_each (filter_map slot_of all) in
     let moved = filter_map move_slot all in
@@ -181,11 +181,11 @@ lane_loaded lane front now tallies are refused still full =
     let slot_are = length-once (filter_map slot_of all) in
     let move_are = length-moves all in
     let packet_parts = sum_by-append (λ (told : LineTold).
-    cond (cond (is_refused told.entry) false (is_packet told.meaning)) 1 0) front (now ∷ []) in
+    cond (cond (is_refused told.entry) false (is_packet told.meaning)) 1 0) prefix (now ∷ []) in
     let packet_one = sum_by-cons (λ (told : LineTold).
     cond (cond (is_refused told.entry) false (is_packet told.meaning)) 1 0) now [] in
     let no_packet = ap {B = ℕ} (λ test. cond (cond test false (is_packet now.meaning)) 1 0) refused in
-    let move_parts = sum_by-append (λ (told : LineTold). cond (is_move told.meaning) 1 0) front (now ∷ []) in
+    let move_parts = sum_by-append (λ (told : LineTold). cond (is_move told.meaning) 1 0) prefix (now ∷ []) in
     let move_one = sum_by-cons (λ (told : LineTold). cond (is_move told.meaning) 1 0) now [] in
     let no_move = ap {B = ℕ} (λ test. cond test 1 0) still in
     omega (
@@ -210,49 +210,49 @@ lane_loaded lane front now tallies are refused still full =
 abbrev pub rooms_of : (room lane : ℕ) → Rooms
 rooms_of room lane = record { room = room; lane = lane }
 
-parked_so : (parked : Bool) (slot : ℕ) (front : List LineTold) (tally : Tally) → IsTally slot front tally
-    → (parked ≡ true → (0 < tally.moves) × (tally.parked ≡ true)) → MayPark parked slot front
-parked_so false slot front tally is due = tt
-parked_so true slot front tally is due = let parts = due refl in (is.moved parts.0, is.parked parts.1)
+parked_so : (parked : Bool) (slot : ℕ) (prefix : List LineTold) (tally : Tally) → IsTally slot prefix tally
+    → (parked ≡ true → (0 < tally.moves) × (tally.parked ≡ true)) → MayPark parked slot prefix
+parked_so false slot prefix tally is due = tt
+parked_so true slot prefix tally is due = let parts = due refl in (is.moved parts.0, is.parked parts.1)
 
-line_lawful : (slices room lane n : ℕ) (front : List LineTold) (tallies : Tallies) (meaning : Meaning)
+line_lawful : (slices room lane n : ℕ) (prefix : List LineTold) (tallies : Tallies) (meaning : Meaning)
     (entry : LineEntry)
-    → Answers n meaning entry → ((s : ℕ) → IsTally s front (tallies s))
+    → Answers n meaning entry → ((s : ℕ) → IsTally s prefix (tallies s))
     → IsDue (rooms_of room lane) tallies (asks_of meaning) (outcome_told entry)
-    → RefusedAs (sliced slices room lane) front (told_as meaning entry) entry × ParkedAs front entry
-line_lawful slices room lane n front tallies (note text) (line.N noted) answers are due = (tt, tt)
-line_lawful slices room lane n front tallies (note text) (line.C it) answers are due = absurd answers
-line_lawful slices room lane n front tallies (note text) (line.P it) answers are due = absurd answers
-line_lawful slices room lane n front tallies (note text) (line.F it) answers are due = absurd answers
-line_lawful slices room lane n front tallies (move slot slice text) (line.N noted) answers are due = (tt, tt)
-line_lawful slices room lane n front tallies (move slot slice text) (line.C it) answers are due = absurd answers
-line_lawful slices room lane n front tallies (move slot slice text) (line.P it) answers are due = absurd answers
-line_lawful slices room lane n front tallies (move slot slice text) (line.F it) answers are due = absurd answers
-line_lawful slices room lane n front tallies (command slot c) (line.N it) answers are due = absurd answers
-line_lawful slices room lane n front tallies (command slot c) (line.C it) answers are due = (tt, tt)
-line_lawful slices room lane n front tallies (command slot c) (line.P it) answers are due = absurd answers
-line_lawful slices room lane n front tallies (command slot c) (line.F refused) answers are due =
+    → RefusedAs (sliced slices room lane) prefix (told_as meaning entry) entry × ParkedAs prefix entry
+line_lawful slices room lane n prefix tallies (note text) (line.N noted) answers are due = (tt, tt)
+line_lawful slices room lane n prefix tallies (note text) (line.C it) answers are due = absurd answers
+line_lawful slices room lane n prefix tallies (note text) (line.P it) answers are due = absurd answers
+line_lawful slices room lane n prefix tallies (note text) (line.F it) answers are due = absurd answers
+line_lawful slices room lane n prefix tallies (move slot slice text) (line.N noted) answers are due = (tt, tt)
+line_lawful slices room lane n prefix tallies (move slot slice text) (line.C it) answers are due = absurd answers
+line_lawful slices room lane n prefix tallies (move slot slice text) (line.P it) answers are due = absurd answers
+line_lawful slices room lane n prefix tallies (move slot slice text) (line.F it) answers are due = absurd answers
+line_lawful slices room lane n prefix tallies (command slot c) (line.N it) answers are due = absurd answers
+line_lawful slices room lane n prefix tallies (command slot c) (line.C it) answers are due = (tt, tt)
+line_lawful slices room lane n prefix tallies (command slot c) (line.P it) answers are due = absurd answers
+line_lawful slices room lane n prefix tallies (command slot c) (line.F refused) answers are due =
     let many = due refl in
     let count = (are slot).commands in (
-      subst (λ (r : Refusal). MayRefuse (sliced slices room lane) r.slot r.packet front
+      subst (λ (r : Refusal). MayRefuse (sliced slices room lane) r.slot r.packet prefix
           (told_as (command slot c) (line.F refused))) (sym answers) (omega (arith, many, count)),
       tt,
     )
-line_lawful slices room lane n front tallies (packet slot p) (line.N it) answers are due = absurd answers
-line_lawful slices room lane n front tallies (packet slot p) (line.C it) answers are due = absurd answers
-line_lawful slices room lane n front tallies (packet slot p) (line.P judged) answers are due = (
+line_lawful slices room lane n prefix tallies (packet slot p) (line.N it) answers are due = absurd answers
+line_lawful slices room lane n prefix tallies (packet slot p) (line.C it) answers are due = absurd answers
+line_lawful slices room lane n prefix tallies (packet slot p) (line.P judged) answers are due = (
   tt,
-  subst (λ own. MayPark judged.parked own front) (sym answers.1)
-      (parked_so judged.parked slot front (tallies slot) (are slot) due.parked),
+  subst (λ own. MayPark judged.parked own prefix) (sym answers.1)
+      (parked_so judged.parked slot prefix (tallies slot) (are slot) due.parked),
 )
-line_lawful slices room lane n front tallies (packet slot p) (line.F refused) answers are due =
+line_lawful slices room lane n prefix tallies (packet slot p) (line.F refused) answers are due =
     let now = told_as (packet slot p) (line.F refused) in
     let after = tallies_after tallies (asks_of (packet slot p)) (outcome_told (line.F refused)) in
-    let behind : (s : ℕ) → IsTally s (front ++ now ∷ []) (after s) =
-    λ s. line_tallied s n front (tallies s) (packet slot p) (line.F refused) answers (are s) in (
-      subst (λ (r : Refusal). MayRefuse (sliced slices room lane) r.slot r.packet front now) (sym answers)
+    let behind : (s : ℕ) → IsTally s (prefix ++ now ∷ []) (after s) =
+    λ s. line_tallied s n prefix (tallies s) (packet slot p) (line.F refused) answers (are s) in (
+      subst (λ (r : Refusal). MayRefuse (sliced slices room lane) r.slot r.packet prefix now) (sym answers)
           (elim (due.refused refl) [
-            | inl full ↦ inl (lane_loaded lane front now after behind refl refl full)
+            | inl full ↦ inl (lane_loaded lane prefix now after behind refl refl full)
             | inr waits ↦
                 let many = waits.1 in
                 let count = (are slot).packets in
@@ -262,28 +262,28 @@ line_lawful slices room lane n front tallies (packet slot p) (line.F refused) an
     )
 
 -- lines
-pub record LinesLawful (slices room lane : ℕ) (front lines : List LineTold) : Type 0 where
-  pub refusals : EachFrom (RefusedWhereFull (sliced slices room lane)) front lines
-  pub parking : EachFrom ParkedBehindMoves front lines
+pub record LinesLawful (slices room lane : ℕ) (prefix lines : List LineTold) : Type 0 where
+  pub refusals : EachFrom (RefusedWhereFull (sliced slices room lane)) prefix lines
+  pub parking : EachFrom ParkedBehindMoves prefix lines
 
-pub lines_lawful : (slices room lane n : ℕ) (front : List LineTold) (tallies : Tallies) (made : List Meaning)
+pub lines_lawful : (slices room lane n : ℕ) (prefix : List LineTold) (tallies : Tallies) (made : List Meaning)
     (entries : List LineEntry) (turns : List (List ℕ)) → AnswersAll n made entries
-    → ((s : ℕ) → IsTally s front (tallies s))
+    → ((s : ℕ) → IsTally s prefix (tallies s))
     → AreDue (rooms_of room lane) tallies (driven made turns) (map outcome_told entries)
-    → LinesLawful slices room lane front (lines_told made entries)
-lines_lawful slices room lane n front tallies [] entries turns each are due = record { refusals = tt; parking = tt }
-lines_lawful slices room lane n front tallies (now ∷ made) [] turns each are due = absurd each
-lines_lawful slices room lane n front tallies (now ∷ made) (entry ∷ entries) [] each are due =
-    let here = line_lawful slices room lane n front tallies now entry each.0 are due.0 in
-    let rest = lines_lawful slices room lane (n + 1) (front ++ told_as now entry ∷ [])
+    → LinesLawful slices room lane prefix (lines_told made entries)
+lines_lawful slices room lane n prefix tallies [] entries turns each are due = record { refusals = tt; parking = tt }
+lines_lawful slices room lane n prefix tallies (now ∷ made) [] turns each are due = absurd each
+lines_lawful slices room lane n prefix tallies (now ∷ made) (entry ∷ entries) [] each are due =
+    let here = line_lawful slices room lane n prefix tallies now entry each.0 are due.0 in
+    let rest = lines_lawful slices room lane (n + 1) (prefix ++ told_as now entry ∷ [])
     (tallies_after tallies (asks_of now) (outcome_told entry)) made entries [] each.1
-    (λ s. line_tallied s n front (tallies s) now entry each.0 (are s)) due.1 in
+    (λ s. line_tallied s n prefix (tallies s) now entry each.0 (are s)) due.1 in
     record { refusals = (here.0, rest.refusals); parking = (here.1, rest.parking) }
-lines_lawful slices room lane n front tallies (now ∷ made) (entry ∷ entries) (first ∷ turns) each are due =
-    let here = line_lawful slices room lane n front tallies now entry each.0 are due.0 in
-    let rest = lines_lawful slices room lane (n + 1) (front ++ told_as now entry ∷ [])
+lines_lawful slices room lane n prefix tallies (now ∷ made) (entry ∷ entries) (first ∷ turns) each are due =
+    let here = line_lawful slices room lane n prefix tallies now entry each.0 are due.0 in
+    let rest = lines_lawful slices room lane (n + 1) (prefix ++ told_as now entry ∷ [])
     (tallies_after tallies (asks_of now) (outcome_told entry)) made entries turns each.1
-    (λ s. line_tallied s n front (tallies s) now entry each.0 (are s)) due.1 in
+    (λ s. line_tallied s n prefix (tallies s) now entry each.0 (are s)) due.1 in
     record { refusals = (here.0, rest.refusals); parking = (here.1, rest.parking) }
 
 -- before the first line

@@ -1,13 +1,10 @@
 -- The open epoch, as its gateway drives it.
-use Rattle.std.proofs.Common.{◌≡◌, ℕ, ◌+◌, ◌==◌, ◌≤◌, ◌^◌, MatchBool, List, [], ◌∷◌, map, length, refl, sym, ap, subst, ◌∙◌, arith}
+use Rattle.std.proofs.Common.{◌≡◌, ℕ, ◌+◌, ◌==◌, MatchBool, List, [], ◌∷◌, length, refl, sym, ap, subst, ◌∙◌, arith}
 use Rattle.std.proofs.lemmas.Bool.{eq-eqb, ne_eqb}
-use Rattle.std.proofs.lemmas.List.{length-map}
 use Rattle.trace_lines.specs.Line.{Line}
 use Rattle.epoch_schedule.specs.World.{Rooms}
-use Rattle.epoch_schedule.specs.Lines.{asked}
 use Rattle.epoch_schedule.specs.TurnsTold.{turns_told}
 use Rattle.epoch_schedule.specs.declared.turns.Turns.{Turns}
-use Rattle.epoch_drive.specs.Driven.{asks_of}
 use Rattle.gate_model.specs.Versions.{SessionsKeepTheirSlot}
 use Rattle.subscriber.specs.Standing.{SubscriberState}
 use Rattle.at_rest.specs.Rest.{AreAtRest, Rest}

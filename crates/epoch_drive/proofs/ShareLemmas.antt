@@ -1,5 +1,5 @@
 -- What was taken of lines, one after another.
-use Rattle.std.proofs.Common.{◌≡◌, ℕ, zero, suc, ◌+◌, ◌==◌, ◌<◌, ◌≤◌, ◌^◌, Bool, true, false, cond, Option, Some, None, List, [], ◌∷◌, ◌++◌, map, length, take, drop, get_or, set, get_or-set_same, get_or-set_other, length-set, true≢false, refl, sym, ap, subst, ◌∙◌, inl, inr, arith, length-append, append-nil}
+use Rattle.std.proofs.Common.{◌≡◌, ℕ, zero, suc, ◌+◌, ◌==◌, ◌<◌, ◌≤◌, Bool, true, false, cond, Option, Some, None, List, [], ◌∷◌, ◌++◌, map, length, take, drop, get_or, set, get_or-set_same, get_or-set_other, length-set, true≢false, refl, sym, ap, subst, ◌∙◌, inl, inr, arith, length-append, append-nil}
 use Rattle.std.specs.List.{All, cons_option}
 use Rattle.std.specs.Option.{option_map}
 use Rattle.std.proofs.lemmas.Bool.{cases_eq, eq-eqb, ne_eqb}
@@ -255,10 +255,10 @@ opened_more n (suc i) (m1 ∷ made) (o1 ∷ outs) m o low low_outs m_is o_is =
     ∙ opened_more (n + 1) i made outs m o (omega (arith, low)) (omega (arith, low_outs)) m_is o_is)
     ∙ ap (λ k. take k (opened n (m1 ∷ made) (o1 ∷ outs))) more
 
--- a front of the lines has no more packets of a slot than all
-front_packets : (slot k : ℕ) (told : List LineTold)
+-- a prefix of the lines has no more packets of a slot than all
+prefix_packets : (slot k : ℕ) (told : List LineTold)
     → length (accepted.packets_accepted slot (take k told)) ≤ length (accepted.packets_accepted slot told)
-front_packets slot k told =
+prefix_packets slot k told =
     let both : length (accepted.packets_accepted slot told) ≡ length (accepted.packets_accepted slot (take k told))
     + length (accepted.packets_accepted slot (drop k told)) =
     ap (λ ls. length (accepted.packets_accepted slot ls)) (sym (take-append-drop k told))
@@ -287,7 +287,7 @@ may_meet shares subscribers plan told i n own p o low many is_taken are met more
       ap (λ ls. length (accepted.packets_accepted own ls)) (sym more) ∙ ap length (packets_push own (take i told) line)
       ∙ ap (λ x. length (accepted.packets_accepted own (take i told) ++ cons_option x [])) own_packet
       ∙ length-append (accepted.packets_accepted own (take i told)) (alone p ∷ []) in
-      let whole = front_packets own (i + 1) told in
+      let whole = prefix_packets own (i + 1) told in
       omega (arith, lent, next, whole, met.enough own);
   few = met.few own;
   counts = λ subscriber.

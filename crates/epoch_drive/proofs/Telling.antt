@@ -1,7 +1,7 @@
 -- What a schedule says of a slot's lines is what their entries tell of it.
 use Rattle.std.proofs.Common.{◌≡◌, ℕ, ◌+◌, ◌<◌, ◌==◌, ◌||◌, ◌⊎◌, Bool, true, false, Some, None, List, [], ◌∷◌, ◌++◌, length, cond, refl, sym, ap, subst, ◌∙◌, arith, inl, inr, true≢false}
 use Rattle.std.specs.Bool.{IsTrue}
-use Rattle.std.specs.List.{filter_map, cons_option, list_any, All, count_by}
+use Rattle.std.specs.List.{filter_map, cons_option, list_any, count_by}
 use Rattle.std.proofs.lemmas.Bool.{and_parts, or_left, or_right, eqb-true}
 use Rattle.std.proofs.lemmas.List.Elements.{All-append, All-from_recursion, filter_map-append}
 use Rattle.std.proofs.lemmas.List.Folds.{list_any-append}
@@ -31,13 +31,13 @@ abbrev pub move_times : ℕ → List LineTold → ℕ
 move_times slot lines = count_by (moves slot) lines
 
 -- what the lines before tell of a slot
-pub record IsTally (slot : ℕ) (front : List LineTold) (tally : Tally) : Type 0 where
-  pub seen : tally.seen ≡ true → list_any (λ own. own == slot) (filter_map slot_of front) ≡ true
-  pub commands : tally.commands ≡ command_count slot front
-  pub packets : tally.packets ≡ length (packets_accepted slot front)
-  pub moves : tally.moves ≡ move_times slot front
-  pub moved : 0 < tally.moves → is_moved slot front ≡ true
-  pub parked : tally.parked ≡ true → AllParked (marks_since slot front)
+pub record IsTally (slot : ℕ) (prefix : List LineTold) (tally : Tally) : Type 0 where
+  pub seen : tally.seen ≡ true → list_any (λ own. own == slot) (filter_map slot_of prefix) ≡ true
+  pub commands : tally.commands ≡ command_count slot prefix
+  pub packets : tally.packets ≡ length (packets_accepted slot prefix)
+  pub moves : tally.moves ≡ move_times slot prefix
+  pub moved : 0 < tally.moves → is_moved slot prefix ≡ true
+  pub parked : tally.parked ≡ true → AllParked (marks_since slot prefix)
 
 -- and what a line more brings
 record Brings (slot : ℕ) (now : LineTold) (old new : Tally) : Type 0 where
@@ -49,52 +49,52 @@ record Brings (slot : ℕ) (now : LineTold) (old new : Tally) : Type 0 where
       → (moves slot now ≡ true) ⊎ ((old.parked ≡ true) × AllParked (cons_option (parked_told slot now) []))
 
 -- moves
-moved_by : (slot : ℕ) (front : List LineTold) (now : LineTold) (test : Bool) (old new : ℕ) → moves slot now ≡ test
-    → new ≡ old + cond test 1 0 → (0 < old → is_moved slot front ≡ true) → 0 < new
-    → is_moved slot (front ++ now ∷ []) ≡ true
-moved_by slot front now true old new is count before some =
-    is_moved-behind slot front (now ∷ []) (ap (λ test. test || false) is)
-moved_by slot front now false old new is count before some =
-    is_moved-last slot front now is ∙ before (omega (arith, count, some))
+moved_by : (slot : ℕ) (prefix : List LineTold) (now : LineTold) (test : Bool) (old new : ℕ) → moves slot now ≡ test
+    → new ≡ old + cond test 1 0 → (0 < old → is_moved slot prefix ≡ true) → 0 < new
+    → is_moved slot (prefix ++ now ∷ []) ≡ true
+moved_by slot prefix now true old new is count before some =
+    is_moved-behind slot prefix (now ∷ []) (ap (λ test. test || false) is)
+moved_by slot prefix now false old new is count before some =
+    is_moved-last slot prefix now is ∙ before (omega (arith, count, some))
 
-parked_by : (slot : ℕ) (front : List LineTold) (now : LineTold) (test : Bool) (old : Tally) → moves slot now ≡ test
-    → (old.parked ≡ true → AllParked (marks_since slot front))
+parked_by : (slot : ℕ) (prefix : List LineTold) (now : LineTold) (test : Bool) (old : Tally) → moves slot now ≡ test
+    → (old.parked ≡ true → AllParked (marks_since slot prefix))
     → (moves slot now ≡ true) ⊎ ((old.parked ≡ true) × AllParked (cons_option (parked_told slot now) []))
-    → AllParked (marks_since slot (front ++ now ∷ []))
-parked_by slot front now true old is before brings =
-    subst (λ lines. AllParked (filter_map (parked_told slot) lines)) (sym (since-move slot front now is))
+    → AllParked (marks_since slot (prefix ++ now ∷ []))
+parked_by slot prefix now true old is before brings =
+    subst (λ lines. AllParked (filter_map (parked_told slot) lines)) (sym (since-move slot prefix now is))
     (All-from_recursion (λ parked. IsTrue parked) [] tt)
-parked_by slot front now false old is before (inl moved) = absurd (true≢false (sym moved ∙ is))
-parked_by slot front now false old is before (inr parts) =
-    subst (λ lines. AllParked (filter_map (parked_told slot) lines)) (sym (since-other slot front now is))
-    (subst AllParked (sym (filter_map-append (parked_told slot) (behind_last_move slot front) (now ∷ [])))
-    (All-append (λ parked. IsTrue parked) (marks_since slot front) (cons_option (parked_told slot now) [])
+parked_by slot prefix now false old is before (inl moved) = absurd (true≢false (sym moved ∙ is))
+parked_by slot prefix now false old is before (inr parts) =
+    subst (λ lines. AllParked (filter_map (parked_told slot) lines)) (sym (since-other slot prefix now is))
+    (subst AllParked (sym (filter_map-append (parked_told slot) (behind_last_move slot prefix) (now ∷ [])))
+    (All-append (λ parked. IsTrue parked) (marks_since slot prefix) (cons_option (parked_told slot now) [])
     (before parts.0) parts.1))
 
-seen_by : (slot : ℕ) (front : List LineTold) (now : LineTold) (old : Tally)
-    → (old.seen ≡ true → list_any (λ own. own == slot) (filter_map slot_of front) ≡ true)
+seen_by : (slot : ℕ) (prefix : List LineTold) (now : LineTold) (old : Tally)
+    → (old.seen ≡ true → list_any (λ own. own == slot) (filter_map slot_of prefix) ≡ true)
     → (old.seen ≡ true) ⊎ (slot_of now ≡ Some slot)
-    → list_any (λ own. own == slot) (filter_map slot_of (front ++ now ∷ [])) ≡ true
-seen_by slot front now old before brings =
-    let parts = ap (list_any (λ own. own == slot)) (filter_map-append slot_of front (now ∷ []))
-    ∙ list_any-append (λ own. own == slot) (filter_map slot_of front) (filter_map slot_of (now ∷ [])) in
+    → list_any (λ own. own == slot) (filter_map slot_of (prefix ++ now ∷ [])) ≡ true
+seen_by slot prefix now old before brings =
+    let parts = ap (list_any (λ own. own == slot)) (filter_map-append slot_of prefix (now ∷ []))
+    ∙ list_any-append (λ own. own == slot) (filter_map slot_of prefix) (filter_map slot_of (now ∷ [])) in
     parts ∙ elim brings [
       | inl earlier ↦
-          or_left (list_any (λ own. own == slot) (filter_map slot_of front))
+          or_left (list_any (λ own. own == slot) (filter_map slot_of prefix))
           (list_any (λ own. own == slot) (filter_map slot_of (now ∷ []))) (before earlier)
       | inr here ↦
-          or_right (list_any (λ own. own == slot) (filter_map slot_of front))
+          or_right (list_any (λ own. own == slot) (filter_map slot_of prefix))
           (list_any (λ own. own == slot) (filter_map slot_of (now ∷ [])))
           (ap (λ own. list_any (λ other. other == slot) (cons_option own [])) here
           ∙ ap (λ test. test || false) (eqb_same slot))
     ]
 
-tally_more : (slot : ℕ) (front : List LineTold) (now : LineTold) (old new : Tally) → Brings slot now old new
-    → IsTally slot front old → IsTally slot (front ++ now ∷ []) new
-tally_more slot front now old new brings is =
-    let commands = command_count-append slot front (now ∷ []) in
-    let packets = packets_accepted-append slot front (now ∷ []) in
-    let moved = sum_by-append (λ (told : LineTold). cond (moves slot told) 1 0) front (now ∷ []) in
+tally_more : (slot : ℕ) (prefix : List LineTold) (now : LineTold) (old new : Tally) → Brings slot now old new
+    → IsTally slot prefix old → IsTally slot (prefix ++ now ∷ []) new
+tally_more slot prefix now old new brings is =
+    let commands = command_count-append slot prefix (now ∷ []) in
+    let packets = packets_accepted-append slot prefix (now ∷ []) in
+    let moved = sum_by-append (λ (told : LineTold). cond (moves slot told) 1 0) prefix (now ∷ []) in
     let old_commands = is.commands in
     let new_commands = brings.commands in
     let old_packets = is.packets in
@@ -102,12 +102,12 @@ tally_more slot front now old new brings is =
     let old_moves = is.moves in
     let new_moves = brings.more_moves in
     record {
-      seen = λ yes_is. seen_by slot front now old is.seen (brings.seen yes_is);
+      seen = λ yes_is. seen_by slot prefix now old is.seen (brings.seen yes_is);
       commands = omega (arith, commands, old_commands, new_commands);
       packets = omega (arith, packets, old_packets, new_packets);
       moves = omega (arith, moved, old_moves, new_moves);
-      moved = moved_by slot front now (moves slot now) old.moves new.moves refl brings.more_moves is.moved;
-      parked = λ yes_is. parked_by slot front now (moves slot now) old refl is.parked (brings.parked yes_is);
+      moved = moved_by slot prefix now (moves slot now) old.moves new.moves refl brings.more_moves is.moved;
+      parked = λ yes_is. parked_by slot prefix now (moves slot now) old refl is.parked (brings.parked yes_is);
     }
 
 -- one line, where a test says whether it is of the slot
@@ -253,9 +253,9 @@ line_brings slot n tally =
     (λ own p refused. refused_brings (own == slot) slot own (told_as (packet own p) (line.F refused)) tally refl refl
     refl refl refl refl)
 
-pub line_tallied : (slot n : ℕ) (front : List LineTold) (tally : Tally) (meaning : Meaning) (entry : LineEntry)
-    → Answers n meaning entry → IsTally slot front tally
-    → IsTally slot (front ++ told_as meaning entry ∷ []) (tally_after slot tally (asks_of meaning) (outcome_told entry))
-line_tallied slot n front tally meaning entry answers is =
-    tally_more slot front (told_as meaning entry) tally (tally_after slot tally (asks_of meaning) (outcome_told entry))
+pub line_tallied : (slot n : ℕ) (prefix : List LineTold) (tally : Tally) (meaning : Meaning) (entry : LineEntry)
+    → Answers n meaning entry → IsTally slot prefix tally
+    → IsTally slot (prefix ++ told_as meaning entry ∷ []) (tally_after slot tally (asks_of meaning) (outcome_told entry))
+line_tallied slot n prefix tally meaning entry answers is =
+    tally_more slot prefix (told_as meaning entry) tally (tally_after slot tally (asks_of meaning) (outcome_told entry))
     (line_brings slot n tally meaning entry answers) is

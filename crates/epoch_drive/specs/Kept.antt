@@ -1,29 +1,16 @@
 -- What lines mean that are kept until their epoch ends.
-use Rattle.std.specs.Prelude.{◌≡◌, ℕ, ◌≤◌, List, [], ◌∷◌, ◌++◌, All, length, map, slice_range}
+use Rattle.std.specs.Prelude.{◌≡◌, ℕ, List, [], ◌∷◌, ◌++◌, All, map}
 use Rattle.std.specs.List.{flat_map}
-use Rattle.ipv4_packet.specs.Packet.{IsPacket}
 use Rattle.demux.specs.Meant.{meaning_of}
 use Rattle.demux.specs.Trace.{Meaning, command, packet, move, note}
 use Rattle.demux.specs.declared.meant.Meant.{Meant}
-use Rattle.demux.specs.declared.packet.LentPacket.{LentPacket}
 use Rattle.epoch_schedule.specs.Lines.{asked}
 use Rattle.epoch_schedule.specs.declared.ask.LineAsk.{LineAsk}
 use Rattle.epoch_drive.specs.Driven.{asks_of}
 use Rattle.subscriber.specs.Standing.{SubscriberState}
 use Rattle.epoch_drive.specs.declared.kept.EpochLines.{EpochLines}
-use Rattle.epoch_drive.specs.declared.kept.KeptLine.{KeptLine}
-use Rattle.epoch_drive.specs.declared.kept.KeptLine.TheVariants as kept
-use Rattle.epoch_drive.specs.declared.kept.KeptPacket.{KeptPacket}
-
--- a packet among the octets of all, and what a line means with them
-abbrev pub packet_in : List ℕ → KeptPacket → LentPacket
-packet_in octets p = record { moment = p.moment; way = p.way; ip = slice_range octets p.from p.to }
-
-abbrev pub meaning_in : List ℕ → KeptLine → Meaning
-meaning_in octets (kept.Command slot c) = command slot c.value
-meaning_in octets (kept.Packet slot p) = packet slot (packet_in octets p)
-meaning_in octets (kept.Move slot slice text) = move slot slice text
-meaning_in octets (kept.Note text) = note text
+use Rattle.slot_execution.specs.Kept.{IsPlaced, meaning_in}
+use Rattle.slot_execution.specs.declared.kept.KeptMeaning.{KeptMeaning}
 
 -- the octets of its packet, if it means one
 abbrev pub packet_octets : Meaning → List ℕ
@@ -32,32 +19,14 @@ packet_octets (packet slot p) = p.ip
 packet_octets (move slot slice text) = []
 packet_octets (note text) = []
 
--- a packet stands among them
-pub record IsPlacedPacket (octets : List ℕ) (p : KeptPacket) : Type 0 where
-  pub ordered : p.from ≤ p.to
-  pub within : p.to ≤ length octets
-  pub whole : IsPacket (slice_range octets p.from p.to)
-
-abbrev pub IsPlaced : List ℕ → KeptLine → Type 0
-IsPlaced octets (kept.Command slot c) = Unit {0}
-IsPlaced octets (kept.Packet slot p) = IsPlacedPacket octets p
-IsPlaced octets (kept.Move slot slice text) = Unit {0}
-IsPlaced octets (kept.Note text) = Unit {0}
-
--- a packet is put behind the octets before
-pub record Places (old new : List ℕ) (p : LentPacket) (placed : KeptPacket) : Type 0 where
-  pub grown : new ≡ old ++ p.ip
-  pub is : packet_in new placed ≡ p
-  pub stands : IsPlacedPacket new placed
-
 -- what a line means is kept, with the octets of its packet behind those before
-pub record Keeps (old new : List ℕ) (now : Meant) (it : KeptLine) : Type 0 where
+pub record Keeps (old new : List ℕ) (now : Meant) (it : KeptMeaning) : Type 0 where
   pub grown : new ≡ old ++ packet_octets (meaning_of now)
   pub means : meaning_in new it ≡ meaning_of now
   pub placed : IsPlaced new it
 
 -- one line more is kept, with what it asks of the schedule
-pub record Adds (old new : EpochLines) (it : KeptLine) : Type 0 where
+pub record Adds (old new : EpochLines) (it : KeptMeaning) : Type 0 where
   pub ask : LineAsk
   pub asked_so : (octets : List ℕ) → asked ask ≡ asks_of (meaning_in octets it)
   pub asks : new.asks.items ≡ old.asks.items ++ ask ∷ []
@@ -67,7 +36,7 @@ pub record Adds (old new : EpochLines) (it : KeptLine) : Type 0 where
 
 -- .. which is what this line means
 pub record KeepsLine (old new : EpochLines) (now : Meant) : Type 0 where
-  pub it : KeptLine
+  pub it : KeptMeaning
   pub ask : LineAsk
   pub asked_so : (octets : List ℕ) → asked ask ≡ asks_of (meaning_in octets it)
   pub asks : new.asks.items ≡ old.asks.items ++ ask ∷ []

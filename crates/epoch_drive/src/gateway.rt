@@ -51,9 +51,7 @@ impl DrivenGateway {
         ensures { IsResting rest result }
     {
         let AtRest {
-            slices,
-            room,
-            lane,
+            sizes,
             book,
             subscribers,
             lines,
@@ -61,9 +59,9 @@ impl DrivenGateway {
             fulls: _,
         } = rest;
         DrivenGateway {
-            slices,
-            room,
-            lane,
+            slices: sizes.slices,
+            room: sizes.room,
+            lane: sizes.lane,
             book,
             subscribers,
             lines,

@@ -14,24 +14,23 @@ ghost use Rattle.epoch_drive.specs.Joins.{
 };
 ghost use Rattle.lawful_run.specs.Opened.{open_command, open_packet};
 ghost use Rattle.epoch_drive.specs.DrivenOpened.{open_entries, open_entry};
-ghost use Rattle.epoch_drive.specs.Kept.{meaning_in};
+ghost use Rattle.slot_execution.specs.Kept.{meaning_in};
 ghost use Rattle.at_rest.specs.Meant.{IsWithin};
 ghost use Rattle.epoch_drive.specs.Telling.{AreShort, IsShortEntry, line_told};
 
 use crate::epoch::DrivenEntry;
-use crate::kept::KeptLine;
 use crate::replays::SlotReplays;
 use epoch_schedule::LineOutcome;
 use packet_steps::LentVerdict;
 use pc_base::{Outcome as Done, Reply, Slot};
-use slot_execution::{NumberedReply, NumberedVerdict, ToldEntry};
+use slot_execution::{KeptMeaning, NumberedReply, NumberedVerdict, ToldEntry};
 use std::alloc::{AllocError, Global};
 
 /// The entries of lines, which are counted on from this number.
 pub fn join<'a>(
     alloc: Global,
     first: u64,
-    kept: &'a [KeptLine],
+    kept: &'a [KeptMeaning],
     outcomes: &[LineOutcome],
     answers: &mut Vec<SlotReplays<'a, '_>>,
 ) -> Result<Vec<DrivenEntry<'a>>, AllocError>
@@ -55,7 +54,7 @@ pub fn join<'a>(
 
 fn entry_of<'a>(
     line: u64,
-    now: &'a KeptLine,
+    now: &'a KeptMeaning,
     outcome: LineOutcome,
     answers: &mut Vec<SlotReplays<'a, '_>>,
 ) -> DrivenEntry<'a>
@@ -64,11 +63,11 @@ fn entry_of<'a>(
         (open_entry line (meaning_in octets now.now) outcome) result }
 {
     match now {
-        KeptLine::Note(text) => ToldEntry::Note {
+        KeptMeaning::Note(text) => ToldEntry::Note {
             line,
             text: text.as_slice(),
         },
-        KeptLine::Move {
+        KeptMeaning::Move {
             slot: _,
             slice: _,
             text,
@@ -76,13 +75,13 @@ fn entry_of<'a>(
             line,
             text: text.as_slice(),
         },
-        KeptLine::Command { slot, command: _ } => command_entry(
+        KeptMeaning::Command { slot, command: _ } => command_entry(
             line,
             *slot,
             outcome.taken,
             answers,
         ),
-        KeptLine::Packet { slot, packet: _ } => {
+        KeptMeaning::Packet { slot, packet: _ } => {
             packet_entry(line, *slot, outcome.taken, outcome.parked, answers)
         }
     }

@@ -13,7 +13,7 @@ use std::alloc::{AllocError, Global};
 use std::collections::VecDeque;
 use subscriber::Subscriber;
 
-/// What is told of a slot's commands and packets, to be taken from the front.
+/// What is told of a slot's commands and packets, to be taken from the start.
 #[derive(Drop)]
 pub struct SlotReplays<'a, 'b> {
     pub replies: VecDeque<NumberedReply>,

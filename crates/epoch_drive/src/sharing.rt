@@ -1,7 +1,7 @@
 //! The commands and packets that were taken, by slot.
 ghost use Rattle.std.specs.Prelude.{◌≡◌, ◌<◌, ℕ, ◌++◌, ◌∷◌, [], List, All, length, map, vec_len, true, IfOk, OnOk};
 ghost use Rattle.lawful_run.specs.LinesTold.{LineTold};
-ghost use Rattle.epoch_drive.specs.Kept.{IsPlaced, meaning_in};
+ghost use Rattle.slot_execution.specs.Kept.{IsPlaced, meaning_in};
 ghost use Rattle.at_rest.specs.Meant.{IsWithin};
 ghost use Rattle.epoch_drive.specs.DrivenOpened.{open_entry};
 ghost use Rattle.epoch_drive.specs.Opened.{opened};
@@ -15,13 +15,12 @@ ghost use Rattle.epoch_drive.specs.Shares.{
   MayMeet,
 };
 
-use crate::kept::{KeptLine, packet_at};
 use bumpalo::Bump;
 use control_steps::Command;
 use demux::LentPacket;
 use epoch_schedule::{LineOutcome, Scheduled};
 use pc_base::Slot;
-use slot_execution::Placed;
+use slot_execution::{KeptMeaning, Placed, packet_at};
 use std::alloc::{AllocError, Global};
 use subscriber::Subscriber;
 
@@ -39,7 +38,7 @@ pub fn shares_of<'a, 'b>(
     slots: u32,
     subscribers: &[Subscriber],
     scheduled: &Scheduled<'_>,
-    kept: &'a [KeptLine],
+    kept: &'a [KeptMeaning],
     octets: &'a [u8],
 ) -> Result<Vec<Share<'a, 'b>>, AllocError>
     requires slots { slots ≡ length subscribers.now }
@@ -95,7 +94,7 @@ fn share_line<'a, 'b>(
     subscribers: &[Subscriber],
     scheduled: &Scheduled<'_>,
     octets: &'a [u8],
-    now: &'a KeptLine,
+    now: &'a KeptMeaning,
     outcome: LineOutcome,
 ) -> Result<(), AllocError>
     requires within { IsWithin (vec_len shares.old) (meaning_in octets.now now.now) }
@@ -116,17 +115,17 @@ fn share_line<'a, 'b>(
         return Ok(());
     }
     match now {
-        KeptLine::Command { slot, command } => give_command(shares, *slot, &**command),
-        KeptLine::Packet { slot, packet } => {
+        KeptMeaning::Command { slot, command } => give_command(shares, *slot, &**command),
+        KeptMeaning::Packet { slot, packet } => {
             let lent = packet_at(octets, packet);
             give_packet(shares, subscribers, scheduled, *slot, lent)
         }
-        KeptLine::Move {
+        KeptMeaning::Move {
             slot: _,
             slice: _,
             text: _,
         } => Ok(()),
-        KeptLine::Note(_) => Ok(()),
+        KeptMeaning::Note(_) => Ok(()),
     }
 }
 

@@ -14,7 +14,7 @@ ghost use Rattle.epoch_drive.specs.Taken.{HasTaken, IsResting, rest_of};
 ghost use Rattle.epoch_drive.specs.Telling.{AreShort, told_by};
 
 use crate::{DrivenEpoch, DrivenGateway, EpochLines};
-use at_rest::AtRest;
+use at_rest::{AtRest, Sizes};
 use epoch_schedule::Turns;
 use std::alloc::AllocError;
 use trace_lines::TraceLine;
@@ -101,9 +101,7 @@ fn rest_again(gateway: DrivenGateway, fulls: u64) -> AtRest
         latest,
     } = gateway;
     AtRest {
-        slices,
-        room,
-        lane,
+        sizes: Sizes { slices, room, lane },
         book,
         subscribers,
         lines,

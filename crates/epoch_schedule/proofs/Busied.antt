@@ -1,11 +1,11 @@
 -- The control halves whose turn may change something: lists of their slots in the order of the halves.
-use Rattle.std.proofs.Common.{◌≡◌, ℕ, zero, suc, ◌+◌, ◌-◌, ◌<◌, ◌≤◌, ◌==◌, ◌||◌, Bool, true, false, nat_lt, min, Option, Some, None, List, [], ◌∷◌, ◌++◌, length, get_or, map, drop, cond, refl, sym, ap, subst, ◌∙◌, inl, inr, arith, true≢false}
+use Rattle.std.proofs.Common.{◌≡◌, ℕ, zero, suc, ◌+◌, ◌<◌, ◌≤◌, ◌==◌, ◌||◌, Bool, true, false, nat_lt, min, Option, Some, None, List, [], ◌∷◌, ◌++◌, length, get_or, map, drop, cond, refl, sym, ap, subst, ◌∙◌, inl, inr, arith, true≢false}
 use Rattle.std.specs.List.{insert, remove}
 use Rattle.std.proofs.lemmas.Bool.{cases_eq, cases_lt, lt-ltb, le-ltb, le-leb, leb-true, ltb-false, eq-eqb, eqb-true, ne_eqb, and_parts, and_from}
 use Rattle.epoch_schedule.specs.Slots.{SlotNow}
 use Rattle.epoch_schedule.specs.Halves.{send, apply_some, apply_batch, batch_of, next_batch, Worked, work_behind, control_work}
 use Rattle.epoch_schedule.specs.World.{HeldControl}
-use Rattle.epoch_schedule.specs.ControlTurns.{marked, without, held_at}
+use Rattle.epoch_schedule.specs.ControlTurns.{marked, held_at}
 use Rattle.epoch_schedule.proofs.Keeping.{cond_keeps}
 use Rattle.epoch_schedule.specs.Busy.{is_still_by, is_still, InOrder}
 use Rattle.epoch_schedule.specs.Rosters.{RosterNow}

@@ -1,6 +1,5 @@
 -- Line by line.
-use Rattle.std.proofs.Common.{◌≡◌, ℕ, zero, suc, ◌+◌, ◌-◌, ◌<◌, ◌≤◌, List, [], ◌∷◌, ◌++◌, length, get_or, drop, map, fold, refl, sym, ap, ◌∙◌, arith, append_assoc}
-use Rattle.std.proofs.lemmas.List.{append-nil}
+use Rattle.std.proofs.Common.{◌≡◌, ℕ, zero, suc, ◌+◌, ◌-◌, ◌<◌, List, [], ◌∷◌, ◌++◌, length, get_or, drop, map, fold, refl, sym, ap, ◌∙◌, arith, append_assoc}
 use Rattle.epoch_schedule.specs.Slots.{SlotNow, fresh_slot}
 use Rattle.epoch_schedule.specs.Halves.{closed}
 use Rattle.epoch_schedule.specs.Numbers.{value_at}
@@ -13,7 +12,7 @@ use Rattle.epoch_schedule.specs.TurnsTold.{AreWorkers, turns_told, turns_behind,
 use Rattle.epoch_schedule.specs.declared.ask.LineAsk.{LineAsk}
 use Rattle.epoch_schedule.specs.declared.turns.Turns.{Turns}
 use Rattle.epoch_schedule.specs.declared.turns.Turns.TheVariants as turns
-use Rattle.epoch_schedule.proofs.Loops.{drop_at, drop_end}
+use Rattle.epoch_schedule.proofs.Loops.{drop_at}
 
 told_more : (turns : Turns) (slices n : ℕ)
     → turns_told turns slices (suc n) ≡ told_first turns slices ∷ turns_told (turns_after turns) slices n
@@ -23,10 +22,6 @@ told_more (turns.Drawn state per) slices n = refl
 behind_more : (turns : Turns) (n : ℕ) → turns_behind turns (suc n) ≡ turns_behind (turns_after turns) n
 behind_more (turns.List listed) n = refl
 behind_more (turns.Drawn state per) n = refl
-
-behind_none : (turns : Turns) → turns_behind turns 0 ≡ turns
-behind_none (turns.List listed) = refl
-behind_none (turns.Drawn state per) = refl
 
 pub workers_after : (slices : ℕ) (turns : Turns) → AreWorkers slices turns → AreWorkers slices (turns_after turns)
 workers_after slices (turns.List listed) are = are
@@ -54,10 +49,6 @@ rest_more turns slices asks i d below =
     ∙ ap (driven_by (asked (get_or asks i d) ∷ map asked (drop (i + 1) asks)))
     (told_more turns slices (length asks - (i + 1)))
 
-rest_end : (turns : Turns) (slices : ℕ) (asks : List LineAsk) (i : ℕ) → length asks ≤ i → rest turns slices asks i ≡ []
-rest_end turns slices asks i past =
-    ap (λ xs. driven_by (map asked xs) (turns_told turns slices (length asks - i))) (drop_end asks i past)
-
 -- so far: these outcomes, this world, and these turns
 pub record SoFar (rooms : Rooms) (bounds : ℕ → ℕ) (slices : ℕ) (asks : List LineAsk) (from behind : World)
     (first turns : Turns) (told : List Outcome) (i : ℕ) : Type 0 where
@@ -67,19 +58,6 @@ pub record SoFar (rooms : Rooms) (bounds : ℕ → ℕ) (slices : ℕ) (asks : L
       ≡ behind_lines rooms bounds from (lines_of first slices asks)
   pub turns_are : turns_behind turns (length asks - i) ≡ turns_behind first (length asks)
   pub workers : AreWorkers slices turns
-
-pub so_far_none : (rooms : Rooms) (bounds : ℕ → ℕ) (slices : ℕ) (asks : List LineAsk) (world : World) (turns : Turns)
-    (told : List Outcome) → told ≡ [] → AreWorkers slices turns
-    → SoFar rooms bounds slices asks world world turns turns told 0
-so_far_none rooms bounds slices asks world turns told none workers =
-    let all : length asks - 0 ≡ length asks = omega arith in
-    record {
-      outcomes_are = ap (λ xs. xs ++ outcomes rooms bounds world (rest turns slices asks 0)) none
-          ∙ ap (outcomes rooms bounds world) (rest_all turns slices asks);
-      world = ap (behind_lines rooms bounds world) (rest_all turns slices asks);
-      turns_are = ap (turns_behind turns) all;
-      workers = workers;
-    }
 
 pub so_far_more : (rooms : Rooms) (bounds : ℕ → ℕ) (slices : ℕ) (asks : List LineAsk) (from behind new : World)
     (first turns after : Turns) (told more : List Outcome) (outcome : Outcome) (i : ℕ) (d : LineAsk) → i < length asks
@@ -111,34 +89,11 @@ pub record AllDone (rooms : Rooms) (bounds : ℕ → ℕ) (slices : ℕ) (asks :
   pub world : behind ≡ behind_lines rooms bounds from (lines_of first slices asks)
   pub turns_are : turns ≡ turns_behind first (length asks)
 
-pub so_far_all : (rooms : Rooms) (bounds : ℕ → ℕ) (slices : ℕ) (asks : List LineAsk) (from behind : World)
-    (first turns : Turns) (told : List Outcome) (i : ℕ) → length asks ≤ i
-    → SoFar rooms bounds slices asks from behind first turns told i
-    → AllDone rooms bounds slices asks from behind first turns told
-so_far_all rooms bounds slices asks from behind first turns told i past so_far =
-    let none = rest_end turns slices asks i past in
-    let all : length asks - i ≡ 0 = omega (arith, past) in
-    record {
-      outcomes_are = sym (append-nil told) ∙ sym (ap (λ ls. told ++ outcomes rooms bounds behind ls) none)
-          ∙ so_far.outcomes_are;
-      world = sym (ap (behind_lines rooms bounds behind) none) ∙ so_far.world;
-      turns_are = sym (behind_none turns) ∙ sym (ap (turns_behind turns) all) ∙ so_far.turns_are;
-    }
-
 -- draws
 pub record Drawing (rooms : Rooms) (limit count : ℕ) (from now : World) (first state i : ℕ) : Type 0 where
   pub world : fold (turned rooms) now (draws limit state (count - i))
       ≡ fold (turned rooms) from (draws limit first count)
   pub behind : state_behind state (count - i) ≡ state_behind first count
-
-pub drawing_none : (rooms : Rooms) (limit count : ℕ) (from : World) (first : ℕ)
-    → Drawing rooms limit count from from first first 0
-drawing_none rooms limit count from first =
-    let all : count - 0 ≡ count = omega arith in
-    record {
-      world = ap (λ n. fold (turned rooms) from (draws limit first n)) all;
-      behind = ap (state_behind first) all;
-    }
 
 pub drawing_more : (rooms : Rooms) (limit count : ℕ) (from now new : World) (first state after worker i : ℕ)
     → i < count → after ≡ next_state state → worker ≡ drawn_of limit after → new ≡ turned rooms now worker
@@ -153,15 +108,6 @@ drawing_more rooms limit count from now new first state after worker i below aft
 pub record Drawn (rooms : Rooms) (limit count : ℕ) (from now : World) (first state : ℕ) : Type 0 where
   pub world : now ≡ fold (turned rooms) from (draws limit first count)
   pub behind : state ≡ state_behind first count
-
-pub drawing_all : (rooms : Rooms) (limit count : ℕ) (from now : World) (first state i : ℕ) → count ≤ i
-    → Drawing rooms limit count from now first state i → Drawn rooms limit count from now first state
-drawing_all rooms limit count from now first state i past drawing =
-    let none : count - i ≡ 0 = omega (arith, past) in
-    record {
-      world = sym (ap (λ n. fold (turned rooms) now (draws limit state n)) none) ∙ drawing.world;
-      behind = sym (ap (state_behind state) none) ∙ drawing.behind;
-    }
 
 -- what a slot's packets met, of all slots
 pub met_of_slot : (slots : List SlotNow) (s : ℕ)

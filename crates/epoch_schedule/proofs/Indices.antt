@@ -16,17 +16,6 @@ lacks_by halves index slot each past j other is =
     let own = (each j other is).0 in
     ne_eqb other.slot slot (λ same. omega (arith, same, own, past))
 
-pub lacks_there : (halves : List (Option HeldControl)) (index : List ℕ) (slot own : ℕ) → Indexed halves index
-    → own ≡ get_or index slot 0
-    → ((half : HeldControl) → entry halves own ≡ Some half → (half.slot == slot) ≡ false) → Lacks halves slot
-lacks_there halves index slot own each is off j other here =
-    elim (cases_eq other.slot slot) [
-      | inl same ↦
-          let at : own ≡ j = is ∙ ap (λ s. get_or index s 0) (sym same) ∙ (each j other here).1 in
-          off other (ap (entry halves) at ∙ here)
-      | inr differ ↦ ne_eqb other.slot slot differ
-    ]
-
 pub others_differ : (halves : List (Option HeldControl)) (index : List ℕ) (slot i : ℕ) → Indexed halves index
     → (half : HeldControl) → entry halves i ≡ Some half → half.slot ≡ slot
     → (j : ℕ) → (other : HeldControl) → (j ≡ i → ⊥) → entry halves j ≡ Some other → (other.slot == slot) ≡ false

@@ -53,10 +53,6 @@ pub fold_more : {X Y : Type 0} (step : X → Y → X) (ys : List Y) (i : ℕ) (d
 fold_more step ys i d x z all below is ahead =
     ap (λ w. fold step w (drop (i + 1) ys)) is ∙ sym (ap (fold step x) (drop_at ys i d below)) ∙ ahead
 
-pub fold_done : {X Y : Type 0} (step : X → Y → X) (ys : List Y) (i : ℕ) (x all : X) → length ys ≤ i
-    → fold step x (drop i ys) ≡ all → x ≡ all
-fold_done step ys i x all past ahead = sym (ap (fold step x) (drop_end ys i past)) ∙ ahead
-
 pub times_more : {X : Type 0} (step : X → X) (n i : ℕ) (x y all : X) → i < n → y ≡ step x
     → times (n - i) step x ≡ all → times (n - (i + 1)) step y ≡ all
 times_more step n i x y all below is ahead =

@@ -41,9 +41,6 @@ abbrev pub AreBusyBut : (room : ℕ) → (but : List ℕ) → List (List ℕ) �
 AreBusyBut room but busy world =
     (slice : ℕ) → IsLively room but (control_at world slice).held (get_or busy slice []) world.slots
 
-abbrev pub AreBusy : (room : ℕ) → List (List ℕ) → World → Type 0
-AreBusy room busy world = AreBusyBut room [] busy world
-
 -- a slot stands in a list, if its half is there, and the others as before
 pub record IsWoken (slot : ℕ) (held : List HeldControl) (old new : List ℕ) : Type 0 where
   pub ordered : InOrder 0 (length held) held new

@@ -1,5 +1,5 @@
 -- What becomes of a line is what it means.
-use Rattle.std.proofs.Common.{◌≡◌, ℕ, ◌++◌, Bool, false, List, subst, sym, ap, ◌∙◌, inl, inr}
+use Rattle.std.proofs.Common.{ℕ, ◌++◌, List, subst, sym, ap, ◌∙◌, inl, inr}
 use Rattle.trace_lines.specs.Line.{Line}
 use Rattle.demux.specs.Meant.{meaning_of}
 use Rattle.demux.specs.Trace.{Meaning, command, packet, move, note}
@@ -11,7 +11,6 @@ use Rattle.at_rest.specs.Rest.{IsBehind, Rest}
 use Rattle.front_core.specs.declared.halves.Halves.{Halves}
 use Rattle.front_core.specs.declared.taken.OpenEntry.{OpenEntry}
 use Rattle.front_core.specs.declared.taken.Taken.{Taken}
-use Rattle.front_core.specs.declared.took.Took.{Took}
 use Rattle.front_core.specs.Entries.{lines_of, took_of}
 use Rattle.front_core.specs.Keeping.{FrontKeeps}
 use Rattle.front_core.specs.Taking.{MayBecome, Takes}

@@ -133,11 +133,11 @@ ends_sends line c end after accepted now sends same =
     }
 
 -- one of which an item was accepted
-pub ends_accepts : (line : ℕ) (parked : Bool) (packet : Packet) (item : DataItem) (end after : FrontEnd)
-    (accepted now : List DataItem) → EndAccepts end after → IsItemOf end line parked packet item
+pub ends_accepts : (line : ℕ) (packet : Packet) (item : DataItem) (end after : FrontEnd)
+    (accepted now : List DataItem) → EndAccepts end after → IsItemOf end line packet item
     → now ≡ accepted ++ item ∷ []
     → ends_of after now ≡ with_packet (lent_of packet) (ends_of end accepted)
-ends_accepts line parked packet item end after accepted now accepts made more =
+ends_accepts line packet item end after accepted now accepts made more =
     let packets = ap (map (λ (i : DataItem). lent_of i.packet)) more
     ∙ map-append (λ (i : DataItem). lent_of i.packet) accepted (item ∷ [])
     ∙ ap (λ p. map (λ (i : DataItem). lent_of i.packet) accepted ++ lent_of p ∷ []) made.packet_is in
@@ -363,7 +363,7 @@ packets_so room lane slot line packet parked old mid new ready does =
       admitted_as = ready.admitted_as;
       accepted_as = λ yes. (
         ap (λ l. own_of l (view_at new slot).accepted) does.is
-            ∙ ap Some (ends_accepts line parked packet does.item does.end does.after (view_at mid slot).accepted
+            ∙ ap Some (ends_accepts line packet does.item does.end does.after (view_at mid slot).accepted
             (view_at new slot).accepted does.accepts does.made does.accepted
             ∙ ap (λ e. with_packet (lent_of packet) (ends_of e (view_at mid slot).accepted)) (sym same)),
         λ is. ready.parks (sym does.parked_is ∙ is),

@@ -1,5 +1,5 @@
 -- Entries are filled one after another.
-use Rattle.std.proofs.Common.{◌≡◌, ℕ, ◌+◌, ◌==◌, ◌<◌, Bool, true, false, if◌then◌else◌, List, [], ◌∷◌, ◌++◌, drop, length, map, get_or, get_or-set_other, get_or-set_same, set, length-set, refl, sym, ap, subst, ◌∙◌, inl, inr, arith, append_assoc, append-nil}
+use Rattle.std.proofs.Common.{◌≡◌, ℕ, ◌+◌, ◌==◌, ◌<◌, Bool, true, false, if◌then◌else◌, List, [], ◌∷◌, ◌++◌, drop, length, map, get_or, get_or-set_other, get_or-set_same, set, length-set, refl, sym, ap, subst, ◌∙◌, inl, inr, arith, append_assoc}
 use Rattle.std.specs.Prelude.{Option, Some, None, option_to_list, reverse}
 use Rattle.std.proofs.lemmas.Bool.{cases_eq, cases_lt, eq-eqb, eqb-true, ne_eqb}
 use Rattle.std.proofs.lemmas.List.{drop-map, get_or-map, get_or_past, length-map, map-append}
@@ -45,15 +45,6 @@ pub fills_more : (told : List FrontTold) (now : FrontTold) (n : ℕ) (old new : 
 fills_more told now n old new before after whole so next =
     fills_next told (open_of n next.taken.open) (opens_of (n + 1) (reverse new)) before after now whole
     (subst (λ (l : List Taken). Fills told (opens_of n l) before whole) next.first so) next.fills
-
--- .. until none is left
-pub fills_over : (told : List FrontTold) (n : ℕ) (left : List Taken) (answers : List SlotAnswers) (whole : List LineEntry)
-    → Fills told (opens_of n (reverse left)) answers whole → left ≡ [] → map entry_told told ≡ whole
-fills_over told n left answers whole so none =
-    sym (append-nil (map entry_told told))
-    ∙ ap (λ (l : List Taken). map entry_told told
-    ++ filled (opens_of n (reverse l)) (replies_at answers) (mets_at answers)) (sym none)
-    ∙ so
 
 -- lists by slot, where the answers of one slot are others
 at_set : {Y : Type 0} (f : SlotAnswers → List Y) (old : List SlotAnswers) (own slot : ℕ) (after : SlotAnswers) → own < length old

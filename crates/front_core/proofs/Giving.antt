@@ -38,7 +38,7 @@ module _ {F I : Type 0} where
   serves_pumps slot (Leaving from to) new desks now serves = inl serves.0
 
   -- a slot whose items aren't parked, when one was delivered or refused
-  delivered_rests : (slot : ℕ) (item : I) (answer : Result (Unit {0}) (DataNo I)) (old new : Option (DataPlace F I))
+  delivered_rests : (slot : ℕ) (item : I) (answer : Result Bool (DataNo I)) (old new : Option (DataPlace F I))
       (desks now : List (DataDesk F I)) → data_place.is_admitted old ≡ true
       → data_place.moved_at new ≡ data_place.moved_at old → data_place.queue_at new ≡ data_place.queue_at old
       → DeliversPlace slot item answer old new desks now → data_place.parks_at old ≡ false
@@ -54,7 +54,7 @@ module _ {F I : Type 0} where
       ([], sym queue) rests
 
   pub gave_rests : (slot_of : F → ℕ) (item_slot : I → ℕ) (handled : F → List I) (slot room : ℕ) (item : I)
-      (answer : Result (Unit {0}) (DataNo I)) (old new : Option (DataPlace F I)) (desks now : List (DataDesk F I))
+      (answer : Result Bool (DataNo I)) (old new : Option (DataPlace F I)) (desks now : List (DataDesk F I))
       → data_place.is_admitted old ≡ true → Gave slot_of item_slot handled slot room item answer old new desks now
       → data_place.parks_at old ≡ false → data_place.parks_at new ≡ false
   gave_rests slot_of item_slot handled slot room item answer old new desks now admitted gave rests =
@@ -80,17 +80,17 @@ module _ {F I : Type 0} where
 
   -- where an item was accepted, it is parked as before
   gave_same : (slot_of : F → ℕ) (item_slot : I → ℕ) (handled : F → List I) (slot room : ℕ) (item : I)
-      (old new : Option (DataPlace F I)) (desks now : List (DataDesk F I)) → data_place.is_admitted old ≡ true
-      → Gave slot_of item_slot handled slot room item (Ok tt) old new desks now
+      (told : Bool) (old new : Option (DataPlace F I)) (desks now : List (DataDesk F I))
+      → data_place.is_admitted old ≡ true → Gave slot_of item_slot handled slot room item (Ok told) old new desks now
       → data_place.parks_at new ≡ data_place.parks_at old
-  gave_same slot_of item_slot handled slot room item None new desks now admitted gave =
+  gave_same slot_of item_slot handled slot room item told None new desks now admitted gave =
       absurd (true≢false (sym admitted))
-  gave_same slot_of item_slot handled slot room item (Some a) new desks now admitted gave =
+  gave_same slot_of item_slot handled slot room item told (Some a) new desks now admitted gave =
       elim (data_place.parks_at (Some a)) as (λ b. data_place.parks_at (Some a) ≡ b
       → data_place.parks_at new ≡ b) [
         | true ↦ λ parks. queued_parks item a new gave.moved (gave.parked parks).1.0 parks
-        | false ↦ λ rests. gave_rests slot_of item_slot handled slot room item (Ok tt) (Some a) new desks now admitted
-            gave rests
+        | false ↦ λ rests. gave_rests slot_of item_slot handled slot room item (Ok told) (Some a) new desks now
+            admitted gave rests
       ] refl
 
   -- sums of what was accepted
@@ -108,15 +108,15 @@ module _ {F I : Type 0} where
 
 module _ {H N F M I : Type 0} (control_name : H → N) (data_name : F → M) (slot_of : F → ℕ) (item_slot : I → ℕ)
     (handled : F → List I) where
-  pub received : (old new : Both H F I) (slot room : ℕ) (item : I)
+  pub received : (old new : Both H F I) (slot room : ℕ) (item : I) (told : Bool)
       → data_place.is_admitted (data_place.place_at old.places slot) ≡ true
-      → AtSlot (Gave slot_of item_slot handled slot room item (Ok tt)) slot old.places new.places old.desks new.desks
+      → AtSlot (Gave slot_of item_slot handled slot room item (Ok told)) slot old.places new.places old.desks new.desks
       → data_place.names_of data_name new.places ≡ data_place.names_of data_name old.places
       → lanes_of new.desks ≡ lanes_of old.desks → new.queue_room ≡ old.queue_room → new.asked ≡ old.asked + 1
       → new.control_places ≡ old.control_places → new.control_desks ≡ old.control_desks
       → new.control_asked ≡ old.control_asked
       → Received control_name data_name slot item old new
-  received old new slot room item admitted gave names lanes queue asked controls desks control_asked =
+  received old new slot room item told admitted gave names lanes queue asked controls desks control_asked =
       let place : Option (DataPlace F I) = gave.0 in
       let here : data_place.place_at new.places slot ≡ place =
       ap (λ ps. data_place.place_at ps slot) gave.2 ∙ place_here old.places slot place gave.1 in
@@ -136,7 +136,7 @@ module _ {H N F M I : Type 0} (control_name : H → N) (data_name : F → M) (sl
         moved = ap data_place.moved_at here ∙ gave.3.moved;
         accepted = ap data_place.accepted_at here ∙ gave.3.accepted;
         parks = ap data_place.parks_at here
-            ∙ gave_same slot_of item_slot handled slot room item (data_place.place_at old.places slot) place
+            ∙ gave_same slot_of item_slot handled slot room item told (data_place.place_at old.places slot) place
             old.desks new.desks admitted gave.3;
         load_accepted = ap (λ ps. sum_by (λ (items : List I). length items) (datas.accepts_of ps)) gave.2
             ∙ accepted_set old.places slot place 1 gave.1 count;

@@ -505,12 +505,12 @@ halves_command slices room lane slots lines latest asks slot line c old new does
     (omega (arith, control, control_few)) (omega (arith, asked, asked_few))
 
 -- a packet more
-accepted_more : (line latest : ℕ) (parked : Bool) (packet : Packet) (end after : FrontEnd) (items : List DataItem)
-    (item : DataItem) → EndAccepts end after → IsItemOf end line parked packet item
+accepted_more : (line latest : ℕ) (packet : Packet) (end after : FrontEnd) (items : List DataItem)
+    (item : DataItem) → EndAccepts end after → IsItemOf end line packet item
     → MayStand (commands_met end.started.value) (commands_sent end) item
     → All (λ (i : DataItem). i.packet.moment ≤ latest) items → unwrap_or (last_of (start_of end)) 0 ≤ latest
     → latest ≤ packet.moment → AreAccepted end items → AreAccepted after (items ++ item ∷ [])
-accepted_more line latest parked packet end after items item accepts made stands late start moment are =
+accepted_more line latest packet end after items item accepts made stands late start moment are =
     let counted = are.counted in
     let count = accepts.packets in
     let many = length-append items (item ∷ []) in
@@ -542,13 +542,13 @@ accepted_more line latest parked packet end after items item accepts made stands
           (ap (λ s. last_of s.value) (sym accepts.same.started)) later;
     }
 
-split_accepts : (slot lines latest line : ℕ) (parked : Bool) (packet : Packet) (end after : FrontEnd) (item : DataItem)
-    (old new : View) → EndAccepts end after → IsItemOf end line parked packet item
+split_accepts : (slot lines latest line : ℕ) (packet : Packet) (end after : FrontEnd) (item : DataItem)
+    (old new : View) → EndAccepts end after → IsItemOf end line packet item
     → MayStand (commands_met end.started.value) (commands_sent end) item
     → latest ≤ packet.moment → new.control ≡ old.control → new.data_half ≡ old.data_half
     → new.accepted ≡ old.accepted ++ item ∷ [] → SplitKeeps slot lines latest end old
     → SplitKeeps slot (lines + 1) packet.moment after new
-split_accepts slot lines latest line parked packet end after item old new accepts made stands moment control data_half more
+split_accepts slot lines latest line packet end after item old new accepts made stands moment control data_half more
     keeps =
     let sent = ap length accepts.commands.0 in
     let many = ap length more ∙ length-append old.accepted (item ∷ []) in
@@ -565,7 +565,7 @@ split_accepts slot lines latest line parked packet end after item old new accept
           one_same end after half counter accepts.same
           (keeps.names half counter (sym control ∙ here) (sym data_half ∙ there));
       accepted = subst (AreAccepted after) (sym more)
-          (accepted_more line latest parked packet end after old.accepted item accepts made stands keeps.late
+          (accepted_more line latest packet end after old.accepted item accepts made stands keeps.late
           keeps.late_start moment keeps.accepted);
       late = subst (All (λ (i : DataItem). i.packet.moment ≤ packet.moment)) (sym more)
           (All-push (λ (i : DataItem). i.packet.moment ≤ packet.moment) old.accepted item
@@ -593,7 +593,7 @@ halves_receive slices room lane slots lines latest asks slot line packet parked 
     one_changes slices room lane slots lines latest (lines + 1) packet.moment asks (asks + 1) slot old new does.others
     does.sides low (omega (arith, lots, lots_few)) (omega arith) moment keeps
     (view_split slot (lines + 1) packet.moment does.after (view_at new slot) does.is
-    (split_accepts slot lines latest line parked packet does.end does.after does.item (view_at old slot)
+    (split_accepts slot lines latest line packet does.end does.after does.item (view_at old slot)
     (view_at new slot) does.accepts does.made does.stands moment does.control does.data_half does.accepted
     (split_keeps slot lines latest does.end (view_at old slot) does.was (keeps.views slot))))
     (rooms_one room (view_at new slot).lot does.after does.is rooms)

@@ -10,7 +10,7 @@ use Rattle.lawful_run.specs.Accepted.{Placed, packets_accepted}
 use Rattle.lawful_run.specs.Answers.{Answers}
 use Rattle.lawful_run.specs.LinesTold.{LineTold, lines_told, EachLine}
 use Rattle.lawful_run.specs.Parking as lawful
-use Rattle.lawful_run.specs.Parking.{ParkedBehindMoves, ParkedAs, parked_told}
+use Rattle.lawful_run.specs.Parking.{ParkedBehindMoves, ParkedAs}
 use Rattle.lawful_run.specs.Refusals.{RefusedWhereFull, RefusedAs, MayRefusePacket}
 use Rattle.lawful_run.specs.Setup.{sliced}
 use Rattle.lawful_run.proofs.SlotCases.{eqb_same}

@@ -1,5 +1,6 @@
 -- A line that was taken, by what the body of `line` has of it.
-use Rattle.std.proofs.Common.{◌≡◌, ℕ, ◌+◌, ◌^◌, ◌<◌, ◌≤◌, List, [], ◌∷◌, ◌++◌, sym, ap, subst, ◌∙◌, arith}
+use Rattle.std.proofs.Common.{◌≡◌, ℕ, ◌+◌, ◌^◌, ◌<◌, ◌≤◌, List, [], ◌∷◌, ◌++◌, Result, Ok, Err, IfOk}
+use Rattle.std.proofs.Common.{sym, ap, subst, ◌∙◌, arith}
 use Rattle.trace_lines.specs.Line.{Line}
 use Rattle.demux.specs.Meant.{meaning_of}
 use Rattle.demux.specs.declared.meant.Meant.{Meant}
@@ -7,12 +8,15 @@ use Rattle.subscriber.specs.Standing.{SubscriberState}
 use Rattle.at_rest.specs.Meant.{Turned}
 use Rattle.at_rest.specs.Rest.{Rest}
 use Rattle.front_core.specs.declared.halves.Halves.{Halves}
-use Rattle.front_core.specs.Steps.{Settles}
+use Rattle.front_core.specs.Steps.{Pumps, Settles}
 use Rattle.front_core.specs.declared.taken.OpenEntry.{OpenEntry}
 use Rattle.front_core.specs.declared.taken.Taken.{Taken}
 use Rattle.front_core.specs.Entries.{lines_of}
 use Rattle.front_core.specs.Keeping.{FrontKeeps}
 use Rattle.front_core.specs.Taking.{Takes}
+use Rattle.front_core.specs.Words.{TakesAtOnce, TakesLine}
+use Rattle.front_core.specs.declared.front.Front.{Front}
+use Rattle.front_core.specs.declared.took.Took.{Took}
 use Rattle.front_core.proofs.Fronts.{line_keeps, lines_push}
 
 -- the subscribers as they were lent, and as they came back
@@ -45,3 +49,24 @@ pub taken_more : (entries kept more : List Taken) (taken : Taken) (line : Line) 
 taken_more entries kept more taken line same more_is line_is =
     ap lines_of more_is ∙ ap (λ (k : List Taken). lines_of (k ++ taken ∷ [])) same ∙ lines_push entries taken
     ∙ ap (λ (l : Line). lines_of entries ++ l ∷ []) line_is
+
+-- a fact of a result follows from another
+pub if_ok : {T E : Type 0} {P Q : T → Type 0} (r : Result T E) → ((x : T) → P x → Q x) → IfOk r P → IfOk r Q
+if_ok (Ok x) gives one = gives x one
+if_ok (Err e) gives one = tt
+
+-- a line that is taken at once, behind a pump of the halves
+pub pumped_before : (line : Line) (tries : ℕ) (took : Took) (old new : Front) (pumped : Halves) → Pumps old.halves pumped
+    → TakesAtOnce line tries took (record old { halves = pumped }) new → TakesLine line tries took old new
+pumped_before line tries took old new pumped pumps takes = record {
+  taken = takes.taken;
+  entries = takes.entries;
+  line_is = takes.line_is;
+  took_is = takes.took_is;
+  pumped = pumped;
+  pumps = pumps;
+  now = takes.now;
+  turned = takes.turned;
+  turns = takes.turns;
+  takes = takes.takes;
+}

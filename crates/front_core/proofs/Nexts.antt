@@ -21,10 +21,6 @@ use Rattle.front_core.proofs.Popping.{popped_some}
 module _ (slot : ℕ) (items : ℕ → List DataItem) (end : FrontEnd) (lots : List (Option Lot))
     (controls : List ControlHalf) (homes : List (Home DataHalf DataItem))
     (can : CanEndAll slot items (Some (Split end) ∷ lots) (reverse controls) (reverse homes)) where
-  pub control_left : controls ≡ [] → ⊥
-  control_left none = subst (λ (cs : List ControlHalf).
-      CanEndAll slot items (Some (Split end) ∷ lots) (reverse cs) (reverse homes)) none can
-
   module _ (controls_left : List ControlHalf) (control : ControlHalf)
       (controls_are : controls ≡ controls_left ++ control ∷ []) where
     can_control : CanEndAll slot items (Some (Split end) ∷ lots) (control ∷ reverse controls_left) (reverse homes)

@@ -24,7 +24,7 @@ use Rattle.front_core.specs.declared.taken.OpenEntry.TheVariants as open_entry
 use Rattle.front_core.specs.declared.taken.Taken.{Taken}
 use Rattle.front_core.specs.declared.answers.SlotAnswers.{SlotAnswers}
 use Rattle.front_core.specs.declared.told.ToldSlots.{ToldSlots}
-use Rattle.front_core.specs.Ending.{Came, Tells, nothing_came}
+use Rattle.front_core.specs.Ending.{Came, Tells}
 use Rattle.front_core.specs.Filled.{met_so, mets_at}
 use Rattle.front_core.specs.Placed.{AnswersBelow, HomesBelow, IsEntryBelow}
 
@@ -65,10 +65,6 @@ told_below n came old new tells packets below =
     subst (All P) (sym tells.answers)
     (All-push P old.answers.items tells.answer below
     (subst (λ (ps : List PacketDone). All (IsPlaceBelow n) (places_in ps)) (sym here) packets))
-
-pub nothing_below : (n : ℕ) (old new : ToldSlots) → Tells nothing_came old new → AnswersBelow n old.answers.items
-    → AnswersBelow n new.answers.items
-nothing_below n old new tells below = told_below n nothing_came old new tells (All-nil (IsPlaceBelow n)) below
 
 module _ (n : ℕ) (homes left : List (Home DataHalf DataItem)) (home : Home DataHalf DataItem)
     (is : homes ≡ left ++ home ∷ []) (below : HomesBelow n homes) where

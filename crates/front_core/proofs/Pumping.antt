@@ -1,21 +1,13 @@
 -- Both sides were pumped.
-use Rattle.std.proofs.Common.{◌≡◌, ℕ, inl, inr, Bool, true, false, true≢false, not, is_some, List, [], length, refl, sym, ap, ◌∙◌, arith}
-use Rattle.std.specs.Prelude.{Option, Some, None, count_by}
+use Rattle.std.proofs.Common.{◌≡◌, ℕ, false, is_some, List, length}
+use Rattle.std.specs.Prelude.{Option, None, count_by}
 use Rattle.std.specs.List.{sum_by}
-use Rattle.std.proofs.lemmas.List.Elements.{All-nil}
 use Rattle.worker_core.specs.Desks.{lanes_of}
-use Rattle.worker_core.specs.declared.traveller.Traveller.{Ghosts}
-use Rattle.migration.specs.declared.place.ControlPlace.{ControlPlace}
 use Rattle.migration.specs.declared.place.ControlState.{ControlState}
-use Rattle.migration.specs.declared.place.ControlState.TheVariants.{Front, Placed, Recall, Leaving}
-use Rattle.migration.specs.declared.side.Side.{Side}
-use Rattle.migration.specs.Passes.{stage, stage_at}
+use Rattle.migration.specs.Passes.{stage}
 use Rattle.migration.specs.Places as control_place
-use Rattle.migration.specs.Words as controls
 use Rattle.migration.specs.DataWords as datas
 use Rattle.migration.specs.DataPlaces as data_place
-use Rattle.front_core.specs.Listing.{ListsMoving, is_moving, one_if, times}
-use Rattle.front_core.specs.Placing.{ControlsPump}
 use Rattle.front_core.specs.Sides.{Both}
 use Rattle.front_core.specs.SidesSteps.{Settles}
 use Rattle.front_core.proofs.Lists.{same_at}
@@ -49,51 +41,7 @@ module _ {H N F M I : Type 0} (control_name : H → N) (data_name : F → M) whe
     asked = control_asked;
   }
 
--- where no control half is on its way, nothing is to be pumped
-not_one : (b : Bool) → 0 ≡ one_if b → b ≡ false
-not_one true is = absurd (omega (arith, is))
-not_one false is = refl
-
 module _ {H : Type 0} where
   abbrev StateRests : ControlState H → Type 0
   StateRests state = (control_place.is_waiting state ≡ false) × (control_place.waits_for state ≡ None)
       × (stage state ≡ 0)
-
-  state_rests : (state : ControlState H) → not (control_place.is_placed state) ≡ false → StateRests state
-  state_rests (Front half to) rests = absurd (true≢false rests)
-  state_rests (Placed at) rests = (refl, refl, refl)
-  state_rests (Recall at until to) rests = absurd (true≢false rests)
-  state_rests (Leaving from to) rests = absurd (true≢false rests)
-
-  rests_so : (place : Option (ControlPlace H)) → is_moving place ≡ false
-      → (control_place.is_waiting_at place ≡ false) × (control_place.waits_at place ≡ None) × (stage_at place ≡ 0)
-  rests_so None rests = (refl, refl, refl)
-  rests_so (Some place) rests = state_rests place.state rests
-
-no_slice : (slice : ℕ) → ◌≡◌ {A = Option ℕ} None (Some slice) → ⊥
-no_slice slice is = let none : ⊥ = cc in none
-
-module _ {H N : Type 0} {g : Ghosts H N} (name : H → N) (hop_of : H → ℕ) where
-  pub rests_pumped : (side : Side H N g) (moving : List ℕ) (room : ℕ)
-      → ListsMoving (controls.places_of side) moving room → moving ≡ [] → ControlsPump name hop_of side side
-  rests_pumped side moving room lists none =
-      let rests = λ (slot : ℕ). rests_so (control_place.place_at (controls.places_of side) slot)
-      (not_one (is_moving (control_place.place_at (controls.places_of side) slot))
-      (sym (ap (times slot) none) ∙ lists.each slot)) in
-      record {
-        by_slot = record {
-          home_places = controls.places_of side;
-          home_desks = controls.desks_of side;
-          slots = [];
-          home = record { came = λ slot. inl refl; orders = refl };
-          lined = record {
-            rising = λ k low. absurd (omega (arith, low));
-            waiting = All-nil (λ (slot : ℕ). control_place.is_waiting_at (control_place.place_at
-                (controls.places_of side) slot) ≡ true);
-            all = λ slot waits. absurd (true≢false (sym waits ∙ (rests slot).0));
-          };
-          served = (refl, refl);
-        };
-        full = λ slot slice waits. absurd (no_slice slice (sym (rests slot).1 ∙ waits));
-        home = λ slice low. inr (λ slot. (rests slot).2);
-      }

@@ -29,15 +29,15 @@ one_more f xs x y some =
 
 -- what holds of each line, whatever comes behind it
 pub each_push : (P : List LineTold → LineTold → List LineTold → Type 0)
-    → ((front : List LineTold) (now : LineTold) (later others : List LineTold) → P front now later
-    → P front now others)
-    → (front lines : List LineTold) (now : LineTold) → EachFrom P front lines → P (front ++ lines) now []
-    → EachFrom P front (lines ++ now ∷ [])
-each_push P any front [] now each own = (subst (λ lines. P lines now []) (append-nil front) own, tt)
-each_push P any front (first ∷ lines) now each own = (
-  any front first lines (lines ++ now ∷ []) each.0,
-  each_push P any (front ++ first ∷ []) lines now each.1
-      (subst (λ before. P before now []) (sym (append_assoc front (first ∷ []) lines)) own),
+    → ((prefix : List LineTold) (now : LineTold) (later others : List LineTold) → P prefix now later
+    → P prefix now others)
+    → (prefix lines : List LineTold) (now : LineTold) → EachFrom P prefix lines → P (prefix ++ lines) now []
+    → EachFrom P prefix (lines ++ now ∷ [])
+each_push P any prefix [] now each own = (subst (λ lines. P lines now []) (append-nil prefix) own, tt)
+each_push P any prefix (first ∷ lines) now each own = (
+  any prefix first lines (lines ++ now ∷ []) each.0,
+  each_push P any (prefix ++ first ∷ []) lines now each.1
+      (subst (λ before. P before now []) (sym (append_assoc prefix (first ∷ []) lines)) own),
 )
 
 -- answers, and lines with them
@@ -72,7 +72,7 @@ packet_floors-append slot commands before [] more =
 packet_floors-append slot commands before (now ∷ lines) more =
     let own = floor_for (accepted_packet slot now) (packet_floor slot commands before) in
     ap (cons_option own) (packet_floors-append slot commands (before ++ now ∷ []) lines more
-    ∙ ap (λ front. packet_floors slot commands (before ++ now ∷ []) lines ++ packet_floors slot commands front more)
+    ∙ ap (λ prefix. packet_floors slot commands (before ++ now ∷ []) lines ++ packet_floors slot commands prefix more)
     (append_assoc before (now ∷ []) lines))
     ∙ cons_option-append own (packet_floors slot commands (before ++ now ∷ []) lines)
     (packet_floors slot commands (before ++ now ∷ lines) more)

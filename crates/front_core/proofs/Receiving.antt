@@ -34,23 +34,24 @@ module _ (old : Halves) (at slot : ℕ) (is : at ≡ slot) (may : MayGive slot o
       of_split (λ (end : FrontEnd). end.packets < end.started.value.packets + 2 ^ 50) may.end was
       (split_here old at slot is may was read) may.packets_few
 
-  module _ (line : ℕ) (packet : Packet) (parked : Bool) (item : DataItem) (was : Option Lot)
-      (read : was ≡ get_or old.lots.items at was) (makes : MakesItem line parked packet was item) where
-    made_by : IsItemOf may.end line parked packet item
+  module _ (line : ℕ) (packet : Packet) (item : DataItem) (was : Option Lot)
+      (read : was ≡ get_or old.lots.items at was) (makes : MakesItem line packet was item) where
+    made_by : IsItemOf may.end line packet item
         × MayStand (commands_met may.end.started.value) (commands_sent may.end) item
     made_by =
-        subst (λ (l : Option Lot). MakesItem line parked packet l item) (split_here old at slot is may was read) makes
+        subst (λ (l : Option Lot). MakesItem line packet l item) (split_here old at slot is may was read) makes
 
     item_slot : item.slot ≡ slot
     item_slot = made_by.0.slot ∙ may.own
 
-    pub received : (new : Halves) (before lot : Option Lot) → before ≡ get_or old.lots.items at before
-        → parked ≡ (view_at old slot).parks → new.lots.items ≡ set old.lots.items at lot → new.room ≡ old.room
+    pub received : (new : Halves) (parked : Bool) (before lot : Option Lot) → before ≡ get_or old.lots.items at before
+        → parked ≡ (view_at old item.slot).parks → new.lots.items ≡ set old.lots.items at lot → new.room ≡ old.room
         → LotAccepts before lot
         → step.Received control_half.name_of counter_half.name_of item.slot item (both old) (both new)
         → Received slot line packet parked old new
-    received new before lot read_again parks changed room accepts gave =
+    received new parked before lot read_again told changed room accepts gave =
         let low = lot_low old at slot is may in
+        let parks : parked ≡ (view_at old slot).parks = told ∙ ap (λ (n : ℕ). (view_at old n).parks) item_slot in
         let set_there : new.lots.items ≡ set old.lots.items slot lot =
         changed ∙ ap (λ (k : ℕ). set old.lots.items k lot) is in
         let at_slot : step.Received control_half.name_of counter_half.name_of slot item (both old) (both new) =

@@ -207,18 +207,18 @@ module _ {H N F M I : Type 0} (control_name : H → N) (data_name : F → M) (sl
     (lanes : lanes_of new.desks ≡ lanes_of old.desks) (queue : new.queue_room ≡ old.queue_room)
     (controls : new.control_places ≡ old.control_places) (desks : new.control_desks ≡ old.control_desks)
     (control_asked : new.control_asked ≡ old.control_asked) where
-  abbrev GaveAt : Result (Unit {0}) (DataNo I) → Type 0
+  abbrev GaveAt : Result Bool (DataNo I) → Type 0
   GaveAt answer = AtSlot (Gave (λ half. slot_at (data_name half)) item_slot handled slot room item answer) slot
       old.places new.places old.desks new.desks
 
-  pub given : (answer : Result (Unit {0}) (DataNo I)) → GaveAt answer → new.asked ≡ asked_after answer old.asked
+  pub given : (answer : Result Bool (DataNo I)) → GaveAt answer → new.asked ≡ asked_after answer old.asked
       → OnOk answer (Received control_name data_name slot item old new)
-  given (Ok u) gave asked =
-      received control_name data_name (λ half. slot_at (data_name half)) item_slot handled old new slot room item
+  given (Ok told) gave asked =
+      received control_name data_name (λ half. slot_at (data_name half)) item_slot handled old new slot room item told
       admitted gave names lanes queue asked controls desks control_asked
   given (Err refusal) gave asked = tt
 
-  pub came_back : (answer : Result (Unit {0}) (DataNo I)) → GaveAt answer → new.asked ≡ asked_after answer old.asked
+  pub came_back : (answer : Result Bool (DataNo I)) → GaveAt answer → new.asked ≡ asked_after answer old.asked
       → IfErr answer (λ refusal. (no_item refusal ≡ item) × Settles control_name data_name old new)
   came_back (Ok u) gave asked = tt
   came_back (Err refusal) gave asked = (
@@ -231,7 +231,7 @@ module _ {H N F M I : Type 0} (control_name : H → N) (data_name : F → M) (sl
       → IsDataSide data_name slot_at item_slot handled old.places aside old.desks room was old.asked
       → IsDataSide data_name slot_at item_slot handled new.places later new.desks later_room is new.asked
       → old.queue_room ≡ room → AreLanes lane old
-      → (answer : Result (Unit {0}) (DataNo I)) → GaveAt answer → new.asked ≡ asked_after answer old.asked
+      → (answer : Result Bool (DataNo I)) → GaveAt answer → new.asked ≡ asked_after answer old.asked
       → IfErr answer (λ refusal. data_place.parks_at (data_place.place_at old.places slot) ≡ false
       → MetFull old.desks new.desks)
       → IfErr answer (λ refusal. is_full refusal ≡ true → WasFull control_name data_name slot lane old new)

@@ -9,23 +9,16 @@ use Rattle.subscriber.specs.Standing.{SubscriberState}
 use Rattle.at_rest.specs.Rest.{RestLeavesRoom}
 use Rattle.front_core.specs.declared.halves.Halves.{Halves}
 use Rattle.front_core.specs.declared.tried.Given.TheVariants as given
-use Rattle.front_core.specs.Steps.{IsReady, MayAdmit, MayGive, MayMove, Received}
+use Rattle.front_core.specs.Steps.{IsReady, MayAdmit, MayGive, Received}
 use Rattle.front_core.specs.Tries.{GivesCommand, GivesPacket}
 use Rattle.front_core.proofs.Settling.{settles_none}
 use Rattle.front_core.specs.declared.taken.OpenEntry.TheVariants as entry
 use Rattle.front_core.specs.Taking.{GrowsTo, MakesReady, MayTake, TakesCommand, TakesPacket}
-use Rattle.front_core.proofs.Allowing.{may_admit, may_give, may_move}
+use Rattle.front_core.proofs.Allowing.{may_admit, may_give}
 use Rattle.front_core.proofs.Bridging.{prepared}
 use Rattle.front_core.proofs.Fronts.{ready_goes}
 
 module _ (now : Meaning) (subs : List SubscriberState) (halves : Halves) (may : MayTake now subs halves) where
-  pub takes_move : (slot slice : ℕ) → slice < may.slices → MayMove slot slice halves
-  takes_move slot slice low =
-      let few = may.few.0 in
-      let most = may.few.1 in
-      may_move may.slices may.room may.lane (length subs) may.lines may.latest (2 * may.lines) halves may.keeps slot slice
-      low (omega (arith, few, most)) (omega (arith, few, most))
-
   pub takes_admit : (slot : ℕ) (was : SubscriberState) → RestLeavesRoom → slot < length subs
       → was ≡ get_or subs slot was → MayAdmit slot was halves
   takes_admit slot was leaves_room low is =

@@ -82,7 +82,6 @@ received_as slot line cur packet parked old new same received = record {
     number = received.made.number;
     floor = received.made.floor;
     line_is = received.made.line_is;
-    parked_is = received.made.parked_is;
     packet_is = received.made.packet_is ∙ renumbered cur packet received.end.packets same;
   };
   stands = received.stands;

@@ -21,7 +21,7 @@ use Rattle.front_core.specs.declared.took.Took.{Took}
 use Rattle.front_core.specs.declared.took.Took.TheVariants as took
 use Rattle.front_core.specs.declared.answers.SlotAnswers.{SlotAnswers}
 
--- what the front tells of a line, with octets of its own
+-- what the front tells of a line
 abbrev pub FrontTold : Type 0
 FrontTold = ToldEntry (List ℕ) Verdict
 

@@ -106,8 +106,8 @@ abbrev pub LotRefuses : Option Lot → Option Lot → Type 0
 LotRefuses old new = LotSettles old new × OfSplit IsFullEnd new × (fulls_at new ≡ raised (fulls_at old))
 
 -- an item of a packet was made, which may stand among the commands
-abbrev pub MakesItem : ℕ → Bool → Packet → Option Lot → DataItem → Type 0
-MakesItem line parked packet lot item = OfSplit (λ end. IsItemOf end line parked packet item
+abbrev pub MakesItem : ℕ → Packet → Option Lot → DataItem → Type 0
+MakesItem line packet lot item = OfSplit (λ end. IsItemOf end line packet item
     × MayStand (commands_met end.started.value) (commands_sent end) item) lot
 
 -- an item more was accepted

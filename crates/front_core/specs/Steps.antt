@@ -205,7 +205,7 @@ pub record Received (slot line : ℕ) (packet : Packet) (parked : Bool) (old new
   pub data_half : (view_at new slot).data_half ≡ (view_at old slot).data_half
   pub moved : (view_at new slot).moved ≡ (view_at old slot).moved
   pub accepts : EndAccepts end after
-  pub made : IsItemOf end line parked packet item
+  pub made : IsItemOf end line packet item
   pub stands : MayStand (commands_met end.started.value) (commands_sent end) item
   pub accepted : (view_at new slot).accepted ≡ (view_at old slot).accepted ++ item ∷ []
   pub parked_is : parked ≡ (view_at old slot).parks

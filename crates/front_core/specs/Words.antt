@@ -76,3 +76,14 @@ pub record TakesLine (line : Line) (tries : ℕ) (took : Took) (old new : Front)
   pub turned : List SubscriberState
   pub turns : Turned old.slices old.book old.subscribers.items line now new.book turned
   pub takes : Takes new.lines tries (meaning_of now) taken.open turned new.subscribers.items pumped new.halves
+
+-- The same where nothing is pumped before.
+pub record TakesAtOnce (line : Line) (tries : ℕ) (took : Took) (old new : Front) : Type 0 where
+  pub taken : Taken
+  pub entries : entries_in new ≡ entries_in old ++ taken ∷ []
+  pub line_is : taken.line.value ≡ line
+  pub took_is : took ≡ took_of taken.open
+  pub now : Meant
+  pub turned : List SubscriberState
+  pub turns : Turned old.slices old.book old.subscribers.items line now new.book turned
+  pub takes : Takes new.lines tries (meaning_of now) taken.open turned new.subscribers.items old.halves new.halves

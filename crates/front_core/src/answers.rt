@@ -4,7 +4,7 @@ use counter_half::PacketDone;
 
 /// What is told of a slot's commands and packets, the next of each kind last.
 #[derive(Drop)]
-pub(crate) struct SlotAnswers {
+pub(crate) struct SlotAnswers<'p> {
     pub(crate) replies: Vec<CommandDone>,
-    pub(crate) packets: Vec<PacketDone>,
+    pub(crate) packets: Vec<PacketDone<'p>>,
 }

@@ -1,5 +1,5 @@
 //! Both sides of a front.
-ghost use Rattle.std.specs.Prelude.{◌≡◌, ◌<◌, ℕ, [], ◌∷◌, ◌++◌, true, not, cond, filter, OnOk, IfErr};
+ghost use Rattle.std.specs.Prelude.{◌≡◌, ◌<◌, ℕ, [], ◌∷◌, ◌++◌, true, not, cond, filter, OnOk, IfOk, IfErr};
 ghost use Rattle.std.specs.Prelude.{vec_len, vec_capacity};
 ghost use Rattle.migration.specs.Places.{place_at, is_placed_at};
 ghost use Rattle.migration.specs.Words.{roll_of, places_of};
@@ -100,19 +100,14 @@ impl<H: Traveller, F: DataTraveller> BothSides<H, F> {
         Ok(())
     }
 
-    /// Whether an item of a slot that is given now is parked.
-    pub fn parks(&self, slot: Slot) -> bool
-        ensures { result ≡ (view_of H.name F.name (both_of self.now.controls self.now.datas) slot).parks }
-    {
-        self.datas.parks(slot)
-    }
-
-    /// Gives an item to the data half of its slot: into its slice's lane, or into its queue where it is
-    /// parked. Refused, it comes back, and all else is as it was but that its half may have been sent.
-    pub fn give<R: Wait>(&mut self, rt: &R, item: F::Item) -> Result<(), DataNo<F::Item>>
+    /// Gives an item to the data half of its slot: into its slice's lane, or into its queue where it is parked, and
+    /// says which. Refused, it comes back, and all else is as it was but that its half may have been sent.
+    pub fn give<R: Wait>(&mut self, rt: &R, item: F::Item) -> Result<bool, DataNo<F::Item>>
         requires { MayGive H.name F.name (F.item_slot item) (both_of self.old.controls self.old.datas) }
         ensures given { OnOk result (Received H.name F.name (F.item_slot item) item
             (both_of self.old.controls self.old.datas) (both_of self.new.controls self.new.datas)) }
+        ensures told { IfOk result (λ parked. parked
+            ≡ (view_of H.name F.name (both_of self.old.controls self.old.datas) (F.item_slot item)).parks) }
         ensures refused { IfErr result (λ refusal. (no_item refusal ≡ item)
             × Settles H.name F.name (both_of self.old.controls self.old.datas)
             (both_of self.new.controls self.new.datas)) }

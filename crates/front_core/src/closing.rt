@@ -16,8 +16,8 @@ use crate::filling::fill_all;
 use crate::finishing::finish_all;
 use crate::homes::{controls_home, datas_home};
 use crate::told::ToldSlots;
-use crate::{BothSides, Front, Halves, NoMemory, Parts};
-use at_rest::AtRest;
+use crate::{BothSides, Front, Halves, NoMemory};
+use at_rest::{AtRest, Sizes};
 use control_half::ControlHalf;
 use counter_half::DataHalf;
 use gate_model::sessions_keep_their_slot;
@@ -27,30 +27,32 @@ use worker_core::{DataEnd, WorkerEnd};
 
 /// Closes an epoch whose workers have stopped; their ends come in the order of slices. What is left to do is
 /// done, and the gateway is at rest again. Out of memory, all is given up.
-pub fn close<R: Wait>(
+pub fn close<'p, R: Wait>(
     rt: &R,
-    front: Front,
+    front: Front<'p>,
     controls: Vec<WorkerEnd<ControlHalf>>,
-    datas: Vec<DataEnd<DataHalf>>,
-) -> Result<Ended, NoMemory>
+    datas: Vec<DataEnd<DataHalf<'p>>>,
+) -> Result<Ended<'p>, NoMemory>
     requires whole { IsWhole front }
     requires controls { map worker.end_lanes controls.items ≡ control_lanes front }
     requires datas { map data_worker.end_lanes datas.items ≡ data_lanes front }
     requires places { slices_served datas.items ≡ first_slices (opened_of front).slices }
 
-    ensures closes { IfOk result (λ ended. Closes (opened_of front) (taken_by front) ended.rest (told_by ended.epoch)) }
-    ensures counts { IfOk result (λ ended. (ended.rest.lines ≡ lines_in front)
-        × (ended.rest.latest ≡ latest_in front) × (ended.rest.fulls ≡ fulls_in front)) }
+    ensures closes { IfOk result (λ ended. Closes (opened_of front.entry) (taken_by front.entry) ended.rest
+        (told_by ended.epoch)) }
+    ensures counts { IfOk result (λ ended. (ended.rest.lines ≡ lines_in front.entry)
+        × (ended.rest.latest ≡ latest_in front.entry) × (ended.rest.fulls ≡ fulls_in front.entry)) }
 
     // Each entry says what was answered when its line was taken.
     ensures answered { IfOk result (λ ended. map took_told (told_by ended.epoch).lines
-        ≡ map (λ (taken : Taken). took_of taken.open) (entries_in front)) }
+        ≡ map (λ (taken : Taken). took_of taken.open) (entries_in front.entry)) }
 
     // Each packet was handled at one of the slices, or as the epoch was closed.
-    ensures placed { IfOk result (λ ended. All (IsEntryBelow (opened_of front).slices) (told_by ended.epoch).lines) }
+    ensures placed { IfOk result (λ ended. All (IsEntryBelow (opened_of front.entry).slices)
+        (told_by ended.epoch).lines) }
 {
     sessions_keep_their_slot();
-    let Parts {
+    let Front {
         alloc,
         slices,
         lane,
@@ -60,7 +62,8 @@ pub fn close<R: Wait>(
         entries,
         lines,
         latest,
-    } = front.into_parts();
+        ..
+    } = front;
     let Halves {
         alloc: _,
         room,
@@ -89,9 +92,7 @@ pub fn close<R: Wait>(
             rows,
         },
         rest: AtRest {
-            slices,
-            room,
-            lane,
+            sizes: Sizes { slices, room, lane },
             book,
             subscribers,
             lines,

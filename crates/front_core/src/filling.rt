@@ -20,25 +20,25 @@ use crate::answers::SlotAnswers;
 use crate::epoch::FrontEntry;
 use crate::{NoMemory, OpenEntry, Taken};
 use control_half::CommandDone;
-use counter_half::PacketDone;
-use pc_base::{Outcome, Reply, Slot, Verdict};
+use counter_half::{PacketDone, ToldVerdict};
+use pc_base::{Outcome, Reply, Slot};
 use slot_execution::ToldEntry;
 use std::alloc::Global;
 
 /// The entries of lines, which are counted on from this number.
-pub(crate) fn fill_all(
+pub(crate) fn fill_all<'p>(
     alloc: Global,
     first: u64,
     mut entries: Vec<Taken>,
-    answers: &mut Vec<SlotAnswers>,
-) -> Result<Vec<FrontEntry>, NoMemory>
+    answers: &mut Vec<SlotAnswers<'p>>,
+) -> Result<Vec<FrontEntry<'p>>, NoMemory>
     requires within { All (λ taken. IsWithin (length answers.old.items) taken.open) entries.items }
     requires few { first + length entries.items < 2 ^ 64 }
 
     ensures { IfOk result (λ told. map entry_told told.items
         ≡ filled (opens_of first entries.items) (replies_at answers.old.items) (mets_at answers.old.items)) }
 {
-    let mut told = Vec::with_capacity(alloc, entries.len())?;
+    let mut told: Vec<FrontEntry<'p>> = Vec::with_capacity(alloc, entries.len())?;
     entries.reverse();
     for place in 0..entries.len() {
         let entry = fill_next(first + place as u64, &mut entries, answers);
@@ -48,7 +48,11 @@ pub(crate) fn fill_all(
 }
 
 // The entry of the first of the lines that are left, which are in the order from the last.
-fn fill_next(line: u64, left: &mut Vec<Taken>, answers: &mut Vec<SlotAnswers>) -> FrontEntry
+fn fill_next<'p>(
+    line: u64,
+    left: &mut Vec<Taken>,
+    answers: &mut Vec<SlotAnswers<'p>>,
+) -> FrontEntry<'p>
     requires some { 0 < vec_len left.old }
     requires within { All (λ taken. IsWithin (length answers.old.items) taken.open) (reverse left.old.items) }
     ensures { FillsFirst line left.old.items left.new.items answers.old.items answers.new.items result }
@@ -59,7 +63,7 @@ fn fill_next(line: u64, left: &mut Vec<Taken>, answers: &mut Vec<SlotAnswers>) -
     entry_of(line, taken.open, answers)
 }
 
-fn entry_of(line: u64, entry: OpenEntry, answers: &mut Vec<SlotAnswers>) -> FrontEntry
+fn entry_of<'p>(line: u64, entry: OpenEntry, answers: &mut Vec<SlotAnswers<'p>>) -> FrontEntry<'p>
     requires { IsWithin (length answers.old.items) entry }
     ensures { FillsNext answers.old.items answers.new.items (open_of line entry) result }
 {
@@ -71,7 +75,7 @@ fn entry_of(line: u64, entry: OpenEntry, answers: &mut Vec<SlotAnswers>) -> Fron
     }
 }
 
-fn command_entry(line: u64, slot: Slot, answers: &mut Vec<SlotAnswers>) -> FrontEntry
+fn command_entry<'p>(line: u64, slot: Slot, answers: &mut Vec<SlotAnswers<'p>>) -> FrontEntry<'p>
     requires { slot < length answers.old.items }
     ensures { FillsNext answers.old.items answers.new.items (open_command line slot true) result }
 {
@@ -79,7 +83,12 @@ fn command_entry(line: u64, slot: Slot, answers: &mut Vec<SlotAnswers>) -> Front
     answer(line, slot, next)
 }
 
-fn packet_entry(line: u64, slot: Slot, parked: bool, answers: &mut Vec<SlotAnswers>) -> FrontEntry
+fn packet_entry<'p>(
+    line: u64,
+    slot: Slot,
+    parked: bool,
+    answers: &mut Vec<SlotAnswers<'p>>,
+) -> FrontEntry<'p>
     requires { slot < length answers.old.items }
     ensures { FillsNext answers.old.items answers.new.items (open_packet line slot true parked) result }
 {
@@ -88,7 +97,7 @@ fn packet_entry(line: u64, slot: Slot, parked: bool, answers: &mut Vec<SlotAnswe
 }
 
 // What is told next of a slot's commands, and of its packets.
-fn next_reply(answers: &mut Vec<SlotAnswers>, slot: Slot) -> Option<CommandDone>
+fn next_reply(answers: &mut Vec<SlotAnswers<'_>>, slot: Slot) -> Option<CommandDone>
     requires { slot < length answers.old.items }
     ensures { TakesReply answers.old.items answers.new.items slot result }
 {
@@ -96,7 +105,7 @@ fn next_reply(answers: &mut Vec<SlotAnswers>, slot: Slot) -> Option<CommandDone>
     own.replies.pop()
 }
 
-fn next_packet(answers: &mut Vec<SlotAnswers>, slot: Slot) -> Option<PacketDone>
+fn next_packet<'p>(answers: &mut Vec<SlotAnswers<'p>>, slot: Slot) -> Option<PacketDone<'p>>
     requires { slot < length answers.old.items }
     ensures { TakesPacket answers.old.items answers.new.items slot result }
 {
@@ -105,7 +114,7 @@ fn next_packet(answers: &mut Vec<SlotAnswers>, slot: Slot) -> Option<PacketDone>
 }
 
 // A command's entry: it has the next reply.
-fn answer(line: u64, slot: Slot, next: Option<CommandDone>) -> FrontEntry
+fn answer<'p>(line: u64, slot: Slot, next: Option<CommandDone>) -> FrontEntry<'p>
     ensures { entry_told result ≡ told_of_command line slot next }
 {
     match next {
@@ -128,8 +137,13 @@ fn answer(line: u64, slot: Slot, next: Option<CommandDone>) -> FrontEntry
 }
 
 // A packet's entry: it has the next verdict.
-fn judgement(line: u64, slot: Slot, parked: bool, next: Option<PacketDone>) -> FrontEntry
-    ensures { entry_told result ≡ told_of_packet line slot parked next }
+fn judgement<'p>(
+    line: u64,
+    slot: Slot,
+    parked: bool,
+    next: Option<PacketDone<'p>>,
+) -> FrontEntry<'p>
+    ensures { entry_told result ≡ told_of_packet line slot parked next.entry }
 {
     match next {
         Some(done) => ToldEntry::Judgement {
@@ -146,7 +160,7 @@ fn judgement(line: u64, slot: Slot, parked: bool, next: Option<PacketDone>) -> F
             slot,
             number: 0,
             commands: 0,
-            verdict: Verdict::NoBearer,
+            verdict: ToldVerdict::no_bearer(),
             place: None,
             parked,
         },

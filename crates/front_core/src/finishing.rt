@@ -15,7 +15,6 @@ ghost use Rattle.front_core.specs.Ending.{
   HaveEnded,
   Tells,
   came_of,
-  nothing_came,
 };
 ghost use Rattle.front_core.specs.Placed.{AnswersBelow, HomesBelow};
 
@@ -31,19 +30,19 @@ use std::sync::Wait;
 use subscriber::Subscriber;
 
 /// Each split subscriber is one again. The halves are those of the split ones, by slot.
-pub(crate) fn finish_all<R: Wait>(
+pub(crate) fn finish_all<'p, R: Wait>(
     rt: &R,
     alloc: Global,
     mut lots: Vec<Option<Lot>>,
     mut controls: Vec<ControlHalf>,
-    mut homes: Vec<Home<DataHalf>>,
+    mut homes: Vec<Home<DataHalf<'p>>>,
     subscribers: &mut [Subscriber],
-) -> Result<ToldSlots, NoMemory>
+) -> Result<ToldSlots<'p>, NoMemory>
     requires may { (items : ℕ → List DataItem) × CanEndAll 0 items lots.items controls.items homes.items }
     requires lots { vec_len lots ≤ length subscribers.old }
-    ensures ends { (items : ℕ → List DataItem) → CanEndAll 0 items lots.items controls.items homes.items
+    ensures ends { (items : ℕ → List DataItem) → CanEndAll 0 items lots.items controls.items homes.entry.items
         → IfOk result (λ told. HaveEnded items lots.items subscribers.old subscribers.new told) }
-    ensures below { (n : ℕ) → HomesBelow n homes.items → IfOk result (λ told. AnswersBelow n told.answers.items) }
+    ensures below { (n : ℕ) → HomesBelow n homes.entry.items → IfOk result (λ told. AnswersBelow n told.answers.items) }
 {
     let mut told = ToldSlots {
         answers: Vec::with_capacity(alloc, lots.len())?,
@@ -68,14 +67,14 @@ pub(crate) fn finish_all<R: Wait>(
 }
 
 // The first of the slots that are left, which are in the order from the last, as their halves are.
-fn finish_next<R: Wait>(
+fn finish_next<'p, R: Wait>(
     rt: &R,
     alloc: Global,
     lots: &mut Vec<Option<Lot>>,
     controls: &mut Vec<ControlHalf>,
-    homes: &mut Vec<Home<DataHalf>>,
+    homes: &mut Vec<Home<DataHalf<'p>>>,
     subscriber: &mut Subscriber,
-    told: &mut ToldSlots,
+    told: &mut ToldSlots<'p>,
 ) -> Result<(), NoMemory>
     requires some { 0 < vec_len lots.old }
     requires may { (slot : ℕ) × (items : ℕ → List DataItem) × CanEndAll slot items (reverse lots.old.items)
@@ -98,14 +97,14 @@ fn finish_next<R: Wait>(
 }
 
 // A split subscriber. Its halves are the first of those that are left.
-fn finish_split<R: Wait>(
+fn finish_split<'p, R: Wait>(
     rt: &R,
     alloc: Global,
     end: FrontEnd,
     controls: &mut Vec<ControlHalf>,
-    homes: &mut Vec<Home<DataHalf>>,
+    homes: &mut Vec<Home<DataHalf<'p>>>,
     subscriber: &mut Subscriber,
-    told: &mut ToldSlots,
+    told: &mut ToldSlots<'p>,
 ) -> Result<(), NoMemory>
     requires may { (slot : ℕ) × (items : ℕ → List DataItem) × (lots : List (Option lot.Lot))
         × CanEndAll slot items (Some (Split end) ∷ lots) (reverse controls.old.items) (reverse homes.old.items) }
@@ -128,19 +127,19 @@ fn finish_split<R: Wait>(
 }
 
 // One subscriber is one again. Where memory runs out, it is tried once more.
-fn finish_slot<R: Wait>(
+fn finish_slot<'p, R: Wait>(
     rt: &R,
     alloc: Global,
     end: FrontEnd,
     control: ControlHalf,
-    home: Home<DataHalf>,
-) -> Result<Finished, NoMemory>
+    home: Home<DataHalf<'p>>,
+) -> Result<Finished<'p>, NoMemory>
     requires one { AreOfOneSplit end control home.half }
     requires accepted { AreAccepted end (handled_by home.half ++ home.left.items) }
     ensures finishes { IfOk result (λ made. Finishes (start_of end) (commands_sent end)
-        (handled_by home.half ++ home.left.items) end.destination made) }
+        (handled_by home.entry.half ++ home.entry.left.items) end.destination made) }
     ensures placed { IfOk result (λ made. places_in made.packets.items
-        ≡ places_of home.half ++ at_closing home.left.items) }
+        ≡ places_of home.entry.half ++ at_closing home.entry.left.items) }
 {
     let Home { half, left } = home;
     match finish(rt, alloc, end, control, half, left) {
@@ -153,14 +152,15 @@ fn finish_slot<R: Wait>(
 }
 
 // What became of a slot is told. Where the subscriber is bound for stays as the front has it.
-fn end_slot(
-    told: &mut ToldSlots,
+fn end_slot<'p>(
+    told: &mut ToldSlots<'p>,
     slot: Slot,
     subscriber: &mut Subscriber,
-    finished: Finished,
+    finished: Finished<'p>,
 ) -> Result<(), NoMemory>
-    ensures { OnOk result ((subscriber.new ≡ record finished.record { destination = subscriber.old.destination })
-        × Tells (came_of slot finished) told.old told.new) }
+    ensures { OnOk result ((subscriber.new
+        ≡ record finished.entry.record { destination = subscriber.old.destination })
+        × Tells (came_of slot finished.entry) told.old told.new) }
 {
     let Finished {
         record: own,

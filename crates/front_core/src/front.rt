@@ -18,38 +18,24 @@ use worker_core::Post;
 
 /// The front of an epoch: what it was opened with, and what came since.
 #[derive(Drop)]
-pub struct Front {
-    alloc: Global,
+pub struct Front<'p> {
+    pub(crate) alloc: Global,
     /// The gateway as it was, for clauses alone.
-    opened: Snapshot<AtRest>,
-    slices: u8,
-    lane: u32,
-    book: AddressBook,
+    pub(crate) opened: Snapshot<AtRest>,
+    pub(crate) slices: u8,
+    pub(crate) lane: u32,
+    pub(crate) book: AddressBook,
     /// By slot. In place of one that is split stands one without events.
-    subscribers: Vec<Subscriber>,
-    halves: Halves,
+    pub(crate) subscribers: Vec<Subscriber>,
+    pub(crate) halves: Halves<'p>,
     /// Of each line of the epoch.
-    entries: Vec<Taken>,
+    pub(crate) entries: Vec<Taken>,
     /// How many lines the run had, and the moment of the last one.
-    lines: u64,
-    latest: u64,
+    pub(crate) lines: u64,
+    pub(crate) latest: u64,
 }
 
-/// What a front has.
-#[derive(Drop)]
-pub struct Parts {
-    pub alloc: Global,
-    pub slices: u8,
-    pub lane: u32,
-    pub book: AddressBook,
-    pub subscribers: Vec<Subscriber>,
-    pub halves: Halves,
-    pub entries: Vec<Taken>,
-    pub lines: u64,
-    pub latest: u64,
-}
-
-impl Front {
+impl<'p> Front<'p> {
     ghost use Rattle.std.specs.Prelude.{List};
     ghost use Rattle.trace_lines.specs.Line.{Line};
     ghost use Rattle.lawful_run.specs.Merging.{Histories};
@@ -58,17 +44,15 @@ impl Front {
     ghost use Rattle.worker_core.specs.Workers.{place_of, worker_lanes};
     ghost use Rattle.worker_core.specs.DataWorkers as data_worker;
     ghost use Rattle.front_core.specs.Counting.{TookTries};
-    ghost use Rattle.front_core.specs.Keeping.{FrontKeeps};
     ghost use Rattle.front_core.specs.Words.{IsWhole, opened_of, entries_in, taken_by, lines_in, latest_in, fulls_in};
     ghost use Rattle.front_core.specs.Words.{control_lanes, data_lanes, moving_in, first_slices, PumpsFront, TakesLine};
+    ghost use Rattle.front_core.specs.Words.{TakesAtOnce};
     ghost use Rattle.front_core.specs.Entries.{IsLastCommand};
     ghost use Rattle.front_core.specs.Taking.{MayBecome};
-    ghost use Rattle.front_core.specs.Views.{both};
-    ghost use Rattle.worker_core.specs.Desks.{lanes_of};
 
     /// Opens an epoch: the gateway at rest is taken apart, and each slice gets its workers. Out of
     /// memory, all is given up.
-    pub fn open(alloc: Global, rest: AtRest) -> Result<Opened, NoMemory>
+    pub fn open(alloc: Global, rest: AtRest) -> Result<Opened<'p>, NoMemory>
         requires behind { (prior : List Line) × IsBehind rest prior }
         requires represents { (before : Histories) × RepresentsAll rest before }
 
@@ -85,32 +69,30 @@ impl Front {
     {
         let opened = Snapshot::of(&rest);
         let AtRest {
-            slices,
-            room,
-            lane,
+            sizes,
             book,
             subscribers,
             lines,
             latest,
             fulls,
         } = rest;
-        let controls = controls_of(alloc, slices)?;
-        let datas = datas_of(alloc, slices, lane)?;
+        let controls = controls_of(alloc, sizes.slices)?;
+        let datas = datas_of(alloc, sizes.slices, sizes.lane)?;
         let front = Front {
             alloc,
             opened,
-            slices,
-            lane,
+            slices: sizes.slices,
+            lane: sizes.lane,
             book,
             subscribers,
             halves: Halves {
                 alloc,
-                room,
+                room: sizes.room,
                 lots: Vec::new(alloc),
                 sides: BothSides::new(
                     alloc,
                     Side::new(alloc, controls.desks),
-                    DataSide::new(alloc, datas.desks, room),
+                    DataSide::new(alloc, datas.desks, sizes.room),
                 ),
                 fulls,
             },
@@ -145,7 +127,7 @@ impl Front {
     pub fn line<R: Wait>(
         &mut self,
         rt: &R,
-        line: &TraceLine,
+        line: &'p TraceLine,
         patience: u32,
         posts: &[Post],
     ) -> Result<Took, NoMemory>
@@ -175,6 +157,43 @@ impl Front {
         ensures none { OnErr result (entries_in self.new ≡ entries_in self.old) }
     {
         self.halves.pump(rt);
+        self.line_at_once(rt, line, patience, posts)
+    }
+
+    /// The same where the sides stand as they do: nothing is pumped before, so what came home meanwhile, and what
+    /// waits, is left to a later pump.
+    pub fn line_at_once<R: Wait>(
+        &mut self,
+        rt: &R,
+        line: &'p TraceLine,
+        patience: u32,
+        posts: &[Post],
+    ) -> Result<Took, NoMemory>
+        requires whole { IsWhole self.old }
+        requires few { lines_in self.old < 2 ^ 39 }
+        requires late { latest_in self.old ≤ line.now.moment }
+
+        ensures whole { OnOk result (IsWhole self.new) }
+        ensures opened { opened_of self.new ≡ opened_of self.old }
+        ensures taken { OnOk result (taken_by self.new ≡ taken_by self.old ++ line.now ∷ []) }
+        ensures counts { OnOk result ((lines_in self.new ≡ lines_in self.old + 1)
+            × (latest_in self.new ≡ line.now.moment)) }
+        ensures lanes { OnOk result ((control_lanes self.new ≡ control_lanes self.old)
+            × (data_lanes self.new ≡ data_lanes self.old)) }
+
+        // What became of it: as its entry says, which is what the line means behind those before it.
+        ensures takes { IfOk result (λ took. TakesAtOnce line.now (patience + 1) took self.old self.new) }
+        ensures means { (prior : List Line) → IsBehind (opened_of self.old) prior → IfOk result (λ took.
+            MayBecome (meant_next (opened_of self.old).slices (prior ++ taken_by self.old) line.now) took) }
+
+        // The count of full answers rises by one for each try that was refused, and by nothing else: where the line
+        // is, by so many and one.
+        ensures tried { IfOk result (λ took. TookTries (patience + 1) took (fulls_in self.old) (fulls_in self.new)) }
+        ensures rises { fulls_in self.old ≤ fulls_in self.new }
+
+        // Out of memory nothing is accepted.
+        ensures none { OnErr result (entries_in self.new ≡ entries_in self.old) }
+    {
         self.entries.reserve(1)?;
         let meant = decide_line(
             self.alloc,
@@ -226,6 +245,24 @@ impl Front {
         Some((slice, slot))
     }
 
+    /// How many places a slice's lane has.
+    pub fn lane(&self) -> u32
+        ensures { result ≡ self.now.lane }
+    {
+        self.lane
+    }
+
+    /// The slice that has most likely something to do for the last line: where the half of its slot is, or, where it is
+    /// no command or packet, where that of the slot is that moved last. No clause speaks of it, and nothing may rest on
+    /// it but when a thread is woken.
+    pub fn last_slice(&self) -> Option<SliceNo> {
+        let slot = match self.entries.last()?.open.slot() {
+            Some(slot) => slot,
+            None => *self.halves.sides.moving.last()?,
+        };
+        self.halves.sides.controls.slice_of(slot)
+    }
+
     /// How many slots are kept as moving: the control half of each may be on its way.
     pub fn on_their_way(&self) -> usize
         ensures { result ≡ length (moving_in self.now) }
@@ -252,41 +289,5 @@ impl Front {
         ensures { result ≡ fulls_in self.now }
     {
         self.halves.fulls
-    }
-
-    /// Gives what the front has, to close its epoch.
-    pub fn into_parts(self) -> Parts
-        requires { IsWhole self }
-        ensures keeps { FrontKeeps (opened_of self) result.slices result.lane result.lines result.latest result.book
-            result.subscribers.items result.halves result.entries.items }
-        ensures entries { result.entries.items ≡ entries_in self }
-        ensures counts { (result.lines ≡ lines_in self) × (result.latest ≡ latest_in self)
-            × (result.halves.fulls ≡ fulls_in self) }
-        ensures lanes { (lanes_of (both result.halves).control_desks ≡ control_lanes self)
-            × (lanes_of (both result.halves).desks ≡ data_lanes self) }
-    {
-        let Front {
-            alloc,
-            slices,
-            lane,
-            book,
-            subscribers,
-            halves,
-            entries,
-            lines,
-            latest,
-            ..
-        } = self;
-        Parts {
-            alloc,
-            slices,
-            lane,
-            book,
-            subscribers,
-            halves,
-            entries,
-            lines,
-            latest,
-        }
     }
 }

@@ -6,10 +6,10 @@ use crate::lot::{self, Lot};
 use crate::tried::{Given, Tried};
 use crate::{BothSides, NoMemory};
 use control_half::{BoxedCommand, ControlHalf};
-use counter_half::DataHalf;
+use counter_half::{DataHalf, SentPacket};
 use lane_core::Full;
 use migration::DataNo;
-use pc_base::{Packet, SliceNo, Slot};
+use pc_base::{SliceNo, Slot};
 use split_record::split;
 use std::alloc::Global;
 use std::sync::Wait;
@@ -18,18 +18,18 @@ use subscriber::Subscriber;
 use worker_core::{Post, grow, wake_all};
 
 #[derive(Drop)]
-pub struct Halves {
+pub struct Halves<'p> {
     pub alloc: Global,
     /// The room of a slot's lanes, and of its queue at the front.
     pub room: u32,
     /// By slot, as far as there were lines for one.
     pub lots: Vec<Option<Lot>>,
-    pub sides: BothSides<ControlHalf, DataHalf>,
+    pub sides: BothSides<ControlHalf, DataHalf<'p>>,
     /// How many tries were answered Full; at the last u64 it stays.
     pub fulls: u64,
 }
 
-impl Halves {
+impl<'p> Halves<'p> {
     ghost use Rattle.front_core.specs.Lots.{lot_of, end_of};
     ghost use Rattle.front_core.specs.Steps.{Settles, Pumps, MayMove, SlotMoves, MayAdmit, IsReady, MayGive};
     ghost use Rattle.front_core.specs.Steps.{Commanded, CommandsFull};
@@ -183,12 +183,13 @@ impl Halves {
         rt: &R,
         slot: Slot,
         line: u64,
-        packet: Packet,
+        packet: SentPacket<'p>,
         patience: u32,
         posts: &[Post],
     ) -> Result<Given, NoMemory>
         requires { MayGive slot self.old }
-        ensures gives { IfOk result (λ given. GivesPacket slot line packet (patience + 1) given self.old self.new) }
+        ensures gives { IfOk result (λ given. GivesPacket slot line packet.entry (patience + 1) given
+            self.old self.new) }
         ensures counts { IfOk result (λ given. CountsTries (patience + 1) given self.old.fulls self.new.fulls) }
         ensures rises { self.old.fulls ≤ self.new.fulls }
     {
@@ -210,17 +211,22 @@ impl Halves {
         }
     }
 
-    fn try_packet<R: Wait>(&mut self, rt: &R, slot: Slot, line: u64, packet: Packet) -> Tried
+    fn try_packet<R: Wait>(
+        &mut self,
+        rt: &R,
+        slot: Slot,
+        line: u64,
+        packet: SentPacket<'p>,
+    ) -> Tried<'p>
         requires { MayGive slot self.old }
-        ensures tries { TriesPacket slot line packet result self.old self.new }
+        ensures tries { TriesPacket slot line packet.entry result self.old self.new }
         ensures counts { CountsTry result self.old.fulls self.new.fulls }
         ensures rises { self.old.fulls ≤ self.new.fulls }
     {
         let place = slot.0 as usize;
-        let parked = self.sides.parks(slot);
-        let item = lot::item_of(&self.lots[place], line, parked, packet);
+        let item = lot::item_of(&self.lots[place], line, packet);
         match self.sides.give(rt, item) {
-            Ok(()) => {
+            Ok(parked) => {
                 lot::accept(&mut self.lots[place]);
                 Tried::Accepted { parked }
             }

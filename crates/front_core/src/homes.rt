@@ -43,20 +43,21 @@ pub(crate) fn controls_home<R: Wait>(
 }
 
 /// The data halves, by slot, with what is left of their packets.
-pub(crate) fn datas_home<R: Wait>(
+pub(crate) fn datas_home<'p, R: Wait>(
     rt: &R,
     alloc: Global,
-    side: DataSideEnd<DataHalf>,
-    ends: Vec<DataEnd<DataHalf>>,
-) -> Result<Vec<Home<DataHalf>>, NoMemory>
+    side: DataSideEnd<DataHalf<'p>>,
+    ends: Vec<DataEnd<DataHalf<'p>>>,
+) -> Result<Vec<Home<DataHalf<'p>>>, NoMemory>
     requires { data_home_of.AreEnds side.desks.items ends.items }
     ensures home { IfOk result (λ homes. map (λ home. data_half_of.name_of home.half) homes.items
-        ≡ somes (data_place.names_of data_half_of.name_of side.places.items)) }
+        ≡ somes (data_place.names_of data_half_of.name_of side.entry.places.items)) }
     ensures each { IfOk result (λ homes. data_home_of.AtSlots data_half_of.name_of data_named.slot_of
-        side.places.items homes.items) }
+        side.entry.places.items homes.items) }
     ensures items { IfOk result (λ homes. data_home_of.ComeToAccepted data_half_of.name_of data_named.slot_of
-        data_half_of.handled_by side.places.items homes.items) }
-    ensures placed { IfOk result (λ homes. AllPlaced data_half_of.places_of (slices_served ends.items) homes.items) }
+        data_half_of.handled_by side.entry.places.items homes.items) }
+    ensures placed { IfOk result (λ homes. AllPlaced data_half_of.places_of (slices_served ends.entry.items)
+        homes.items) }
 {
     match gather_data(rt, alloc, side, ends) {
         Ok(homes) => Ok(homes),

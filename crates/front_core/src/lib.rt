@@ -29,7 +29,7 @@ mod tried;
 pub use both::BothSides;
 pub use closing::close;
 pub use epoch::{Ended, FrontEntry, FrontEpoch};
-pub use front::{Front, Parts};
+pub use front::Front;
 pub use halves::Halves;
 pub use kept_laws::lines_are_kept;
 pub use lane_core::NoMemory;

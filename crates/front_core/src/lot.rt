@@ -1,5 +1,5 @@
 //! What the front has of a slot.
-ghost use Rattle.std.specs.Prelude.{◌≡◌, ◌<◌, ◌≤◌, ◌+◌, ◌^◌, true, Some, None, length, is_some, OnOk, IfErr};
+ghost use Rattle.std.specs.Prelude.{◌≡◌, ◌<◌, true, Some, None, length, is_some, OnOk, IfErr};
 ghost use Rattle.front_core.specs.declared.lot.Lot.TheVariants.{Split};
 ghost use Rattle.front_core.specs.Lots.{
   IsSplit,
@@ -17,9 +17,8 @@ ghost use Rattle.front_core.specs.Lots.{
 };
 
 use control_half::BoxedCommand;
-use counter_half::DataItem;
+use counter_half::{DataItem, SentPacket};
 use lane_core::Full;
-use pc_base::Packet;
 use split_record::FrontEnd;
 use std::sync::Wait;
 
@@ -90,12 +89,12 @@ pub fn send<R: Wait>(
 }
 
 /// The item of a packet of a split subscriber.
-pub fn item_of(lot: &Option<Lot>, line: u64, parked: bool, packet: Packet) -> DataItem
+pub fn item_of<'p>(lot: &Option<Lot>, line: u64, packet: SentPacket<'p>) -> DataItem<'p>
     requires { IsSplit lot.now }
-    ensures { MakesItem line parked packet lot.now result }
+    ensures { MakesItem line packet.entry lot.now result }
 {
     match lot {
-        Some(Lot::Split(end)) => end.packet_item(line, parked, packet),
+        Some(Lot::Split(end)) => end.packet_item(line, packet),
         Some(Lot::Moved) => unreachable!(),
         None => unreachable!(),
     }

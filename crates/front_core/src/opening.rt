@@ -14,10 +14,10 @@ use worker_core::{DataDesk, DataWorker, Desk, Worker, data_pair, pair};
 
 /// A front, and for each slice in order the worker of its control halves and that of its data halves.
 #[derive(Drop)]
-pub struct Opened {
-    pub front: Front,
+pub struct Opened<'p> {
+    pub front: Front<'p>,
     pub controls: Vec<Worker<ControlHalf>>,
-    pub datas: Vec<DataWorker<DataHalf>>,
+    pub datas: Vec<DataWorker<DataHalf<'p>>>,
 }
 
 /// The desks of workers, and these.
@@ -28,9 +28,9 @@ pub(crate) struct Controls {
 }
 
 #[derive(Drop)]
-pub(crate) struct Datas {
-    pub(crate) desks: Vec<DataDesk<DataHalf>>,
-    pub(crate) workers: Vec<DataWorker<DataHalf>>,
+pub(crate) struct Datas<'p> {
+    pub(crate) desks: Vec<DataDesk<DataHalf<'p>>>,
+    pub(crate) workers: Vec<DataWorker<DataHalf<'p>>>,
 }
 
 pub(crate) fn controls_of(alloc: Global, slices: u8) -> Result<Controls, NoMemory>
@@ -50,7 +50,7 @@ pub(crate) fn controls_of(alloc: Global, slices: u8) -> Result<Controls, NoMemor
     Ok(Controls { desks, workers })
 }
 
-pub(crate) fn datas_of(alloc: Global, slices: u8, lane: u32) -> Result<Datas, NoMemory>
+pub(crate) fn datas_of<'p>(alloc: Global, slices: u8, lane: u32) -> Result<Datas<'p>, NoMemory>
     requires few { slices ≤ 64 }
     requires lane { (1 ≤ lane) × (lane ≤ 16384) }
     ensures lanes { IfOk result (λ made. lanes_of made.desks.items ≡ map data_worker.worker_lanes made.workers.items) }
@@ -59,10 +59,10 @@ pub(crate) fn datas_of(alloc: Global, slices: u8, lane: u32) -> Result<Datas, No
     ensures places { IfOk result (λ made. map data_worker.place_of made.workers.items ≡ first_slices slices) }
     ensures new { IfOk result (λ made. All IsNewDesk made.desks.items) }
 {
-    let mut desks = Vec::new(alloc);
-    let mut workers = Vec::new(alloc);
+    let mut desks: Vec<DataDesk<DataHalf<'p>>> = Vec::new(alloc);
+    let mut workers: Vec<DataWorker<DataHalf<'p>>> = Vec::new(alloc);
     for i in 0..slices {
-        let (desk, worker) = data_pair(alloc, SliceNo(i), lane)?;
+        let (desk, worker) = data_pair::<DataHalf<'p>>(alloc, SliceNo(i), lane)?;
         desks.push(desk)?;
         workers.push(worker)?;
     }

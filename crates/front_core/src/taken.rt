@@ -29,6 +29,16 @@ impl OpenEntry {
         }
     }
 
+    /// The slot of a command or packet.
+    pub(crate) fn slot(&self) -> Option<Slot> {
+        match self {
+            OpenEntry::Note(_) => None,
+            OpenEntry::Command(slot) => Some(*slot),
+            OpenEntry::Packet { slot, .. } => Some(*slot),
+            OpenEntry::Full { slot, .. } => Some(*slot),
+        }
+    }
+
     /// The slot of a command that was accepted.
     pub(crate) fn commanded(&self) -> Option<Slot>
         ensures { result ≡ commanded_by self.now }

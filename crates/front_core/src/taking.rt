@@ -2,6 +2,7 @@
 ghost use Rattle.std.specs.Prelude.{◌≡◌, ◌≤◌, ◌+◌, ℕ, IfOk};
 ghost use Rattle.demux.specs.Trace.{command, packet};
 ghost use Rattle.demux.specs.Meant.{meaning_of};
+ghost use Rattle.demux.specs.Packets.{numbered};
 ghost use Rattle.front_core.specs.Steps.{MayMove, SlotMoves};
 ghost use Rattle.front_core.specs.Counting.{TookTries};
 ghost use Rattle.front_core.specs.Entries.{took_of};
@@ -12,6 +13,7 @@ use crate::taken::OpenEntry;
 use crate::{Given, Halves, NoMemory};
 use at_rest::rest_leaves_room;
 use control_half::BoxedCommand;
+use counter_half::SentPacket;
 use demux::{LentPacket, Meant};
 use pc_base::{Octets, SliceNo, Slot};
 use std::alloc::Global;
@@ -20,13 +22,13 @@ use subscriber::Subscriber;
 use worker_core::Post;
 
 /// Does what a line of this number means: its open entry.
-pub(crate) fn take<R: Wait>(
+pub(crate) fn take<'p, R: Wait>(
     rt: &R,
     alloc: Global,
     line: u64,
-    meant: Meant<'_>,
+    meant: Meant<'p>,
     subscribers: &mut [Subscriber],
-    halves: &mut Halves,
+    halves: &mut Halves<'p>,
     patience: u32,
     posts: &[Post],
 ) -> Result<OpenEntry, NoMemory>
@@ -47,7 +49,6 @@ pub(crate) fn take<R: Wait>(
         Meant::Packet { slot, packet } => {
             take_packet(
                 rt,
-                alloc,
                 line,
                 slot,
                 &packet,
@@ -65,7 +66,7 @@ fn take_move<R: Wait>(
     slot: Slot,
     slice: SliceNo,
     text: Octets,
-    halves: &mut Halves,
+    halves: &mut Halves<'_>,
 ) -> Result<OpenEntry, NoMemory>
     requires may { MayMove slot slice halves.old }
     ensures takes { IfOk result (λ open_. (open_ ≡ Note text) × SlotMoves slot slice halves.old halves.new) }
@@ -84,7 +85,7 @@ fn take_command<R: Wait>(
     slot: Slot,
     asks: BoxedCommand,
     subscribers: &mut [Subscriber],
-    halves: &mut Halves,
+    halves: &mut Halves<'_>,
     patience: u32,
     posts: &[Post],
 ) -> Result<OpenEntry, NoMemory>
@@ -106,14 +107,13 @@ fn take_command<R: Wait>(
     }
 }
 
-fn take_packet<R: Wait>(
+fn take_packet<'p, R: Wait>(
     rt: &R,
-    alloc: Global,
     line: u64,
     slot: Slot,
-    lent: &LentPacket<'_>,
+    lent: &LentPacket<'p>,
     subscribers: &mut [Subscriber],
-    halves: &mut Halves,
+    halves: &mut Halves<'p>,
     patience: u32,
     posts: &[Post],
 ) -> Result<OpenEntry, NoMemory>
@@ -124,11 +124,23 @@ fn take_packet<R: Wait>(
         halves.new.fulls) }
     ensures rises { halves.old.fulls ≤ halves.new.fulls }
 {
-    let numbered = lent.numbered(alloc, 0)?;
+    let sent = sent_of(lent);
     rest_leaves_room();
     halves.admit(rt, slot, &mut subscribers[slot.0 as usize])?;
-    match halves.give_packet(rt, slot, line, numbered, patience, posts)? {
+    match halves.give_packet(rt, slot, line, sent, patience, posts)? {
         Given::Accepted { parked } => Ok(OpenEntry::Packet { slot, parked }),
         Given::Full => Ok(OpenEntry::Full { slot, packet: true }),
+    }
+}
+
+// The packet before it has a number, where it lies.
+fn sent_of<'p>(lent: &LentPacket<'p>) -> SentPacket<'p>
+    ensures { result ≡ numbered 0 lent.now }
+{
+    SentPacket {
+        number: 0,
+        moment: lent.moment,
+        way: lent.way,
+        ip: lent.ip.copied(),
     }
 }

@@ -16,24 +16,24 @@ use std::alloc::Global;
 
 /// By slot: what is told of commands and packets, and all effects and charging records.
 #[derive(Drop)]
-pub(crate) struct ToldSlots {
-    pub(crate) answers: Vec<SlotAnswers>,
+pub(crate) struct ToldSlots<'p> {
+    pub(crate) answers: Vec<SlotAnswers<'p>>,
     pub(crate) effects: Vec<Caused>,
     pub(crate) rows: Vec<Closed>,
 }
 
 /// Tells what became of the next slot, whose subscriber was split.
-pub(crate) fn tell(
-    told: &mut ToldSlots,
+pub(crate) fn tell<'p>(
+    told: &mut ToldSlots<'p>,
     slot: Slot,
     mut replies: Vec<CommandDone>,
-    mut packets: Vec<PacketDone>,
+    mut packets: Vec<PacketDone<'p>>,
     effects: Vec<VersionDone>,
     rows: Vec<ChargeRow>,
 ) -> Result<(), NoMemory>
     ensures { OnOk result (Tells (record {
       replies = replies.items;
-      packets = packets.items;
+      packets = packets.entry.items;
       effects = flat_map (effect_entries slot) effects.items;
       rows = map (R slot) rows.items;
     }) told.old told.new) }
@@ -46,7 +46,7 @@ pub(crate) fn tell(
 }
 
 /// Tells that nothing became of the next slot.
-pub(crate) fn tell_nothing(alloc: Global, told: &mut ToldSlots) -> Result<(), NoMemory>
+pub(crate) fn tell_nothing(alloc: Global, told: &mut ToldSlots<'_>) -> Result<(), NoMemory>
     ensures { OnOk result (Tells nothing_came told.old told.new) }
 {
     told.answers.push(SlotAnswers {

@@ -1,12 +1,12 @@
 //! What comes of tries of a command or packet.
-use pc_base::Packet;
+use counter_half::SentPacket;
 
 /// What came of one try of a packet.
 #[derive(Drop)]
-pub enum Tried {
+pub enum Tried<'p> {
     Accepted { parked: bool },
     /// It comes back, under the number that it would have had.
-    Full(Packet),
+    Full(SentPacket<'p>),
     NoMemory,
 }
 

@@ -1,7 +1,7 @@
 -- What a command leaves of the active bearers: those that go on keep their place and their quality of service, and no
 -- life begins twice.
-use Rattle.std.proofs.Common.{◌≡◌, ◌≢◌, ℕ, ◌+◌, ◌<◌, ◌≤◌, Bool, true, false, List, [], ◌∷◌, map, Option, Some, None, refl, sym, ap, ◌∙◌, subst, inl, inr, ◌⊎◌, arith}
-use Rattle.std.specs.List.{filter_map, cons_option}
+use Rattle.std.proofs.Common.{◌≡◌, ◌≢◌, ℕ, ◌<◌, false, List, [], ◌∷◌, Some, refl, sym, ap, ◌∙◌, subst, inl, inr, ◌⊎◌, arith}
+use Rattle.std.specs.List.{cons_option}
 use Rattle.std.proofs.lemmas.Bool.{false≢true}
 use Rattle.bearer_state.specs.declared.bearer.Phase.{Phase}
 use Rattle.bearer_state.specs.declared.bearer.Phase.TheVariants.{Asked, Active}
@@ -10,9 +10,9 @@ use Rattle.bearer_state.specs.declared.version.ActiveBearer.{ActiveBearer}
 use Rattle.bearer_state.specs.Session.{SessionState, IsActivePhase}
 use Rattle.bearer_state.specs.Version.{active_of, active_in, actives}
 use Rattle.packet_steps.specs.Change.{has_life}
-use Rattle.gate_model.proofs.Members.{In, of_map, in_map, of_filter_map, in_filter_map, IsOther, AreDistinct, other_at, other_if, one_of}
+use Rattle.gate_model.proofs.Members.{In, in_map, of_filter_map, in_filter_map, IsOther, AreDistinct, one_of}
 use Rattle.gate_model.proofs.BookSteps.{life_in, active_lives, has_of}
-use Rattle.gate_model.proofs.SessionSteps.{life_of, lives_in, Advances, Continues, Comes, AreLived, GoesTo}
+use Rattle.gate_model.proofs.SessionSteps.{life_of, lives_in, Advances, AreLived, GoesTo}
 
 -- what an active bearer is one of
 pub record Shows (bearer : Bearer) (active : ActiveBearer) : Type 0 where

@@ -1,13 +1,12 @@
 -- What a version brings to the book may happen there, and leaves the lives of the active bearers open.
-use Rattle.std.proofs.Common.{◌≡◌, ◌≢◌, ℕ, ◌+◌, ◌<◌, ◌≤◌, ◌==◌, Bool, true, false, not, if◌then◌else◌, nat_lt, List, [], ◌∷◌, ◌++◌, map, fold, All, Contains, refl, sym, ap, ◌∙◌, subst, inl, inr, ◌⊎◌, arith, append_assoc, eq-eqb}
-use Rattle.std.specs.List.{filter, list_any}
+use Rattle.std.proofs.Common.{◌≡◌, ◌≢◌, ℕ, ◌+◌, ◌==◌, Bool, true, false, not, if◌then◌else◌, nat_lt, List, [], ◌∷◌, ◌++◌, map, fold, refl, sym, ap, ◌∙◌, subst, inl, inr, append_assoc, eq-eqb}
+use Rattle.std.specs.List.{filter}
 use Rattle.std.proofs.lemmas.Bool.{false≢true, ne_eqb, eqb-true, cases_Bool, not_from_false, not-true}
 use Rattle.std.proofs.lemmas.List.{append-nil}
 use Rattle.std.proofs.lemmas.List.Sums.{fold-append}
 use Rattle.bearer_state.specs.declared.version.ActiveBearer.{ActiveBearer}
 use Rattle.bearer_state.specs.Version.{VersionState}
-use Rattle.charging_book.specs.declared.records.Why.{Why}
-use Rattle.charging_book.specs.declared.records.Why.TheVariants.{Volume, Qos, Gone}
+use Rattle.charging_book.specs.declared.records.Why.TheVariants.{Qos, Gone}
 use Rattle.charging_book.specs.Happenings.{Happening, started, forwarded, closed, lives_step, lives_of, MayHappen, IsLawful}
 use Rattle.charging_book.proofs.Steps.{lives-push, lawful-push}
 use Rattle.packet_steps.specs.Change.{has_life, shared_with, lacking_in, shares_ambr, ended, cut, begun, marks}

@@ -1,8 +1,8 @@
 -- What a slot is charged is what was forwarded for it, and records are only added.
-use Rattle.std.proofs.Common.{◌≡◌, ℕ, ◌+◌, ◌≤◌, ◌==◌, Bool, true, false, cond, if◌then◌else◌, nat_lt, List, [], ◌∷◌, ◌++◌, map, fold, length, drop, Option, Some, None, refl, sym, ap, ◌∙◌, subst, arith, append_assoc}
-use Rattle.std.specs.List.{filter, filter_map, flat_map}
+use Rattle.std.proofs.Common.{◌≡◌, ℕ, ◌+◌, ◌==◌, Bool, true, false, cond, if◌then◌else◌, nat_lt, List, [], ◌∷◌, ◌++◌, map, fold, length, drop, Option, Some, None, refl, sym, ap, ◌∙◌, append_assoc}
+use Rattle.std.specs.List.{filter, flat_map}
 use Rattle.std.proofs.lemmas.Grind.{flat_map-append}
-use Rattle.std.proofs.lemmas.List.{append-nil, drop-append-le}
+use Rattle.std.proofs.lemmas.List.{append-nil}
 use Rattle.std.proofs.lemmas.List.Elements.{filter-append, filter_map-append}
 use Rattle.pc_base.specs.declared.effect.Effect.{Effect}
 use Rattle.pc_base.specs.declared.effect.Effect.TheVariants as effect
@@ -13,12 +13,10 @@ use Rattle.bearer_state.specs.declared.version.ActiveBearer.{ActiveBearer}
 use Rattle.bearer_state.specs.Version.{VersionState}
 use Rattle.charging_book.specs.declared.records.Why.{Why}
 use Rattle.charging_book.specs.declared.records.Why.TheVariants.{Qos, Gone}
-use Rattle.charging_book.specs.Pieces.{Forwarded}
 use Rattle.charging_book.specs.Happenings.{Happening, started, forwarded, closed, rows_from, rows_of}
 use Rattle.charging_book.specs.Ledger.{packet_by, packets_of}
 use Rattle.charging_book.proofs.Steps.{rows_from-append}
 use Rattle.charging_book.proofs.Partition.{ledgers_are_partitions}
-use Rattle.control_steps.specs.declared.command.CommandKind.{CommandKind}
 use Rattle.packet_steps.specs.Messages.{end_marker}
 use Rattle.packet_steps.specs.Rows.{ForwardedRow, HeldRow}
 use Rattle.packet_steps.specs.Past.{Past, row_for, happening_for}
@@ -27,8 +25,8 @@ use Rattle.packet_steps.specs.Change.{ended, cut, begun, marks, shares_ambr, sha
 use Rattle.gate_model.specs.declared.event.Event.{Event}
 use Rattle.gate_model.specs.declared.event.Event.TheVariants as event
 use Rattle.gate_model.specs.SlotPast.{SlotPast, new_slot, next_version, commanded, met, happens, behind, past_of, records_after, records_made}
-use Rattle.gate_model.specs.Stories.{Episode, episodes_from, story_of}
-use Rattle.gate_model.specs.Ledger.{Sent, sent_as, sent_by_verdict, sent_by_fate, sent_by_effect, sent_at, sent_in, charged_as, rows_of_life, ForwardedIsTold, EachPacketInOnePiece, RecordsAreAdded}
+use Rattle.gate_model.specs.Stories.{episodes_from}
+use Rattle.gate_model.specs.Ledger.{Sent, sent_as, sent_by_verdict, sent_by_effect, sent_in, charged_as, rows_of_life, ForwardedIsTold, EachPacketInOnePiece, RecordsAreAdded}
 use Rattle.gate_model.proofs.PastSteps.{Keeps, judged_kept, all_released}
 use Rattle.gate_model.proofs.Outcomes.{JudgedAs, ReleasedAs, judged_as, released_as}
 use Rattle.gate_model.proofs.Sound.{past_sound}
@@ -254,9 +252,9 @@ on_from base past (event.Packet packet ∷ later) on =
     on_from base (met past packet) later (judged_kept (GoesOn base) (λ n. Unit {0})
     (on_keeps base) past.packets packet on)
 
-drop_front : {X : Type 0} (xs ys : List X) → drop (length xs) (xs ++ ys) ≡ ys
-drop_front [] ys = refl
-drop_front (x ∷ xs) ys = drop_front xs ys
+drop_prefix : {X : Type 0} (xs ys : List X) → drop (length xs) (xs ++ ys) ≡ ys
+drop_prefix [] ys = refl
+drop_prefix (x ∷ xs) ys = drop_prefix xs ys
 
 pub records_added : RecordsAreAdded
 records_added slot before now =
@@ -266,5 +264,5 @@ records_added slot before now =
     ap (λ (past : SlotPast). rows_of past.packets.charged) (past-append slot before now) ∙ ap rows_of on.is
     ∙ rows_from-append [] base on.more in
     let made : records_made slot before now ≡ rows_from base on.more =
-    ap (drop (length (rows_of base))) split ∙ drop_front (rows_of base) (rows_from base on.more) in
+    ap (drop (length (rows_of base))) split ∙ drop_prefix (rows_of base) (rows_from base on.more) in
     split ∙ ap (λ rows. rows_of base ++ rows) (sym made)

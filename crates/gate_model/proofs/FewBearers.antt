@@ -16,9 +16,9 @@ use Rattle.bearer_state.specs.Lookup.{has_index, least_free, is_dedicated}
 use Rattle.bearer_state.specs.Session.{SessionState}
 use Rattle.bearer_state.specs.Version.{active_in, actives}
 use Rattle.control_steps.specs.declared.command.CommandKind.{CommandKind}
-use Rattle.control_steps.specs.declared.command.CommandKind.TheVariants.{Attach, Create, Modify, Release, Delete, AddBearer, Filters, Drop, Ambr, CreateAns, UpdateAns, DeleteAns}
+use Rattle.control_steps.specs.declared.command.CommandKind.TheVariants.{Attach, Create, Modify, AddBearer, Filters, Drop, Ambr, CreateAns}
 use Rattle.control_steps.proofs.WrittenTable.{few_indices}
-use Rattle.control_steps.specs.Row.{Row, repeated, pdn_refused, class_refused, created, attached, no_session, no_bearer, modified, released, deleted, not_asked, asked, not_refiltered, refiltered, not_dropped, dropped, not_rerated, rerated, unasked, granted, denied, noted, filters_given, filters_made, row_of}
+use Rattle.control_steps.specs.Row.{Row, created, attached, modified, released, deleted, asked, refiltered, dropped, rerated, granted, denied, filters_given, filters_made, row_of}
 use Rattle.control_steps.specs.Table.{qos_asked, with_bearer, with_filters, with_enb, effect, controlled}
 use Rattle.gate_model.proofs.Members.{at_each, of_find}
 

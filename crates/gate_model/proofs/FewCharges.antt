@@ -1,5 +1,5 @@
 -- An event charges few things: at most forty-nine.
-use Rattle.std.proofs.Common.{◌≡◌, ℕ, ◌+◌, ◌*◌, ◌-◌, ◌<◌, ◌≤◌, ◌^◌, ◌==◌, ◌&&◌, nat_le, nat_lt, Bool, true, false, not, if◌then◌else◌, List, [], ◌∷◌, ◌++◌, map, fold, length, Option, Some, None, refl, sym, ap, ◌∙◌, subst, arith, length-append}
+use Rattle.std.proofs.Common.{◌≡◌, ℕ, ◌+◌, ◌*◌, ◌≤◌, ◌==◌, ◌&&◌, nat_le, nat_lt, Bool, true, false, not, if◌then◌else◌, List, [], ◌∷◌, ◌++◌, map, fold, length, Option, Some, None, refl, sym, subst, arith, length-append}
 use Rattle.std.specs.List.{filter}
 use Rattle.std.proofs.lemmas.Bool.Decides.{nat_tests}
 use Rattle.std.proofs.lemmas.List.{length-map}
@@ -22,9 +22,8 @@ use Rattle.packet_steps.specs.Rows.{HeldRow}
 use Rattle.packet_steps.specs.Messages.{gpdu}
 use Rattle.packet_steps.specs.Past.{Past, row_for, happening_for, with_row, with_held}
 use Rattle.packet_steps.specs.Policing.{passes}
-use Rattle.packet_steps.specs.Verdicts.{tried, notice, judged_up, judged_waiting, judged_to, judged_down, bearer_for, judged_by_way, is_packet, judged_now, at_moment, judged}
+use Rattle.packet_steps.specs.Verdicts.{tried, notice, judged_up, judged_to, judged_down, bearer_for, judged_by_way, is_packet, at_moment, judged}
 use Rattle.packet_steps.specs.Change.{shared_with, shares_ambr, has_life, ended, cut, begun, marks_between, marks, markers, bearer_of, waits, fated, released_to, released_by, released, marked, learnt}
-use Rattle.packet_steps.specs.Standing.{AreFew, Follows}
 use Rattle.packet_steps.proofs.FoldLemmas.{held_all}
 use Rattle.gate_model.specs.declared.event.Event.{Event}
 use Rattle.gate_model.specs.declared.event.Event.TheVariants as event

@@ -1,17 +1,14 @@
 -- The session is of the commands alone, and each version follows on the past before it.
-use Rattle.std.proofs.Common.{◌≡◌, ◌≢◌, ℕ, ◌+◌, ◌<◌, ◌≤◌, Bool, true, false, List, [], ◌∷◌, ◌++◌, map, fold, length, All, Contains, refl, sym, ap, ◌∙◌, subst, arith}
-use Rattle.std.specs.List.{AllByRecursion}
+use Rattle.std.proofs.Common.{◌≡◌, ◌≢◌, ℕ, ◌+◌, false, List, [], ◌∷◌, ◌++◌, fold, length, refl, sym, ap, ◌∙◌, subst, arith}
 use Rattle.std.proofs.lemmas.List.Elements.{All-from_recursion}
 use Rattle.std.proofs.lemmas.List.Sums.{fold-append}
-use Rattle.bearer_state.specs.declared.version.ActiveBearer.{ActiveBearer}
-use Rattle.bearer_state.specs.Session.{SessionState, new_session}
+use Rattle.bearer_state.specs.Session.{new_session}
 use Rattle.bearer_state.specs.Version.{VersionState, version_of, actives}
 use Rattle.charging_book.specs.Happenings.{lives_of}
 use Rattle.control_steps.specs.declared.command.CommandKind.{CommandKind}
-use Rattle.control_steps.specs.Table.{controlled}
 use Rattle.packet_steps.specs.Rows.{ForwardedRow}
 use Rattle.packet_steps.specs.Change.{has_life, learnt}
-use Rattle.packet_steps.specs.Standing.{OpenAreActive, AreFew, Follows}
+use Rattle.packet_steps.specs.Standing.{AreFew, Follows}
 use Rattle.gate_model.specs.declared.event.Event.{Event}
 use Rattle.gate_model.specs.declared.event.Event.TheVariants as event
 use Rattle.gate_model.specs.Events.{commands_of}
@@ -20,7 +17,7 @@ use Rattle.gate_model.specs.Versions.{controlled_by, SessionsAreOfCommands, Vers
 use Rattle.gate_model.proofs.Members.{In, each_at, in_contains, contains_in}
 use Rattle.gate_model.proofs.SessionSteps.{session_goes}
 use Rattle.gate_model.proofs.BookSteps.{has_of, of_has}
-use Rattle.gate_model.proofs.ActiveSteps.{IsOld, IsSame, same_bearer, begins_fresh}
+use Rattle.gate_model.proofs.ActiveSteps.{IsOld, same_bearer, begins_fresh}
 use Rattle.gate_model.proofs.Sound.{IsSound, past_sound}
 
 pub past-append : (slot : ℕ) (before now : List Event)

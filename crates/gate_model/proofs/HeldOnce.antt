@@ -1,7 +1,6 @@
 -- As often as a packet was held, it had its fate or is held still.
-use Rattle.std.proofs.Common.{◌≡◌, ℕ, ◌+◌, ◌==◌, ◌&&◌, Bool, true, false, cond, List, [], ◌∷◌, ◌++◌, fold, length, Option, Some, None, refl, sym, ap, ◌∙◌, subst, arith}
+use Rattle.std.proofs.Common.{◌≡◌, ℕ, ◌+◌, ◌==◌, ◌&&◌, Bool, true, false, cond, List, [], ◌∷◌, ◌++◌, fold, Option, Some, None, refl, ap, ◌∙◌, arith}
 use Rattle.std.specs.List.{sum_by, count_by, flat_map}
-use Rattle.std.specs.Option.{option_and_then}
 use Rattle.std.proofs.lemmas.List.Sums.{sum_by-append, sum_by-cons}
 use Rattle.pc_base.specs.declared.effect.Effect.{Effect}
 use Rattle.pc_base.specs.declared.effect.Effect.TheVariants as effect
@@ -10,7 +9,6 @@ use Rattle.pc_base.specs.declared.packet.Peer.{Peer}
 use Rattle.pc_base.specs.declared.packet.Verdict.{Verdict}
 use Rattle.bearer_state.specs.declared.version.ActiveBearer.{ActiveBearer}
 use Rattle.bearer_state.specs.Version.{VersionState}
-use Rattle.control_steps.specs.declared.command.CommandKind.{CommandKind}
 use Rattle.packet_steps.specs.Rows.{HeldRow}
 use Rattle.packet_steps.specs.Messages.{end_marker}
 use Rattle.packet_steps.specs.Past.{Past}
@@ -18,10 +16,9 @@ use Rattle.packet_steps.specs.Verdicts.{at_moment, judged}
 use Rattle.packet_steps.specs.Change.{marker_between, marker_for, markers, enb_of, same_peer, marked, released, learnt}
 use Rattle.gate_model.specs.declared.event.Event.{Event}
 use Rattle.gate_model.specs.declared.event.Event.TheVariants as event
-use Rattle.gate_model.specs.SlotPast.{SlotPast, new_slot, next_version, commanded, met, happens, behind, past_of}
-use Rattle.gate_model.specs.Stories.{Episode, episodes_from, story_of}
+use Rattle.gate_model.specs.SlotPast.{SlotPast, new_slot, next_version, commanded, met, happens, behind}
+use Rattle.gate_model.specs.Stories.{Episode, episodes_from}
 use Rattle.gate_model.specs.Holding.{is_held, holds, is_fate_of, fates_in, fates_at, waiting, EachHeldPacketOnce}
-use Rattle.gate_model.specs.Ledger.{sent_by_effect}
 use Rattle.gate_model.proofs.Outcomes.{JudgedAs, nothing, ReleasedAs, ends, judged_as, released_as}
 use Rattle.gate_model.proofs.Outcomes as outcomes
 

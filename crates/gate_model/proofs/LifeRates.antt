@@ -1,32 +1,27 @@
 -- What was forwarded for a life, or while the AMBR was set so often, stays within its rate from then on.
-use Rattle.std.proofs.Common.{◌≡◌, ◌≢◌, ℕ, ◌+◌, ◌<◌, ◌≤◌, ◌==◌, ◌&&◌, Bool, true, false, not, List, [], ◌∷◌, ◌++◌, map, fold, Contains, refl, sym, ap, ◌∙◌, subst, inl, inr, ◌⊎◌, arith}
-use Rattle.std.specs.List.{filter}
+use Rattle.std.proofs.Common.{◌≡◌, ℕ, ◌+◌, ◌<◌, ◌≤◌, ◌==◌, ◌&&◌, Bool, true, false, not, List, [], ◌∷◌, ◌++◌, fold, refl, sym, ap, ◌∙◌, subst, inl, inr, arith}
 use Rattle.std.proofs.lemmas.Bool.{eqb-true, and_parts, not-true}
 use Rattle.pc_base.specs.declared.packet.Packet.{Packet}
-use Rattle.rate_policer.specs.Conforming.{ArePoliced}
 use Rattle.bearer_state.specs.declared.bearer.Bearer.{Bearer}
 use Rattle.bearer_state.specs.declared.qos.Qos.{Qos}
 use Rattle.bearer_state.specs.declared.version.ActiveBearer.{ActiveBearer}
 use Rattle.bearer_state.specs.Qos.{is_guaranteed}
 use Rattle.bearer_state.specs.Session.{SessionState}
 use Rattle.bearer_state.specs.Version.{VersionState, version_of, actives}
-use Rattle.control_steps.specs.declared.command.CommandKind.{CommandKind}
-use Rattle.packet_steps.specs.Rows.{ForwardedRow, HeldRow}
 use Rattle.packet_steps.specs.Past.{Past, row_for}
-use Rattle.packet_steps.specs.Policing.{mbr, ambr, same_way, is_of_life, is_of_rates, costs, passes}
-use Rattle.packet_steps.specs.Change.{markers, marked, learnt}
-use Rattle.packet_steps.specs.Verdicts.{judged}
+use Rattle.packet_steps.specs.Policing.{mbr, ambr, same_way, is_of_life, is_of_rates, passes}
+use Rattle.packet_steps.specs.Change.{markers, marked}
 use Rattle.gate_model.specs.declared.event.Event.{Event}
 use Rattle.gate_model.specs.declared.event.Event.TheVariants as event
-use Rattle.gate_model.specs.SlotPast.{SlotPast, next_session, next_version, commanded, met, happens, behind, past_of, version_after}
+use Rattle.gate_model.specs.SlotPast.{SlotPast, next_session, next_version, happens, behind, past_of, version_after}
 use Rattle.gate_model.specs.Rates.{LivesArePoliced, SharesArePoliced}
 use Rattle.gate_model.proofs.Members.{In, in_contains, one_of}
 use Rattle.gate_model.proofs.SessionSteps.{life_of, GoesTo, session_goes}
 use Rattle.gate_model.proofs.BookSteps.{life_in}
 use Rattle.gate_model.proofs.PolicedRows.{PolicedBy, left_out, let_in, passes_own, passes_shared, same_ways}
-use Rattle.gate_model.proofs.ActiveSteps.{shown_by, life_shown, IsOld}
+use Rattle.gate_model.proofs.ActiveSteps.{shown_by, life_shown}
 use Rattle.gate_model.proofs.PastSteps.{Keeps, judged_kept, all_released}
-use Rattle.gate_model.proofs.Sound.{IsSound, behind_sound, past_sound, version-learnt, version-judged}
+use Rattle.gate_model.proofs.Sound.{IsSound, behind_sound, past_sound}
 use Rattle.gate_model.proofs.Following.{past-append}
 
 -- A past whose active bearers of a life have one quality of service, and whose rows of that life are policed by it.

@@ -1,6 +1,5 @@
 -- What may become of a packet that is judged, and of one that is held.
-use Rattle.std.proofs.Common.{◌≡◌, ◌≢◌, ℕ, ◌+◌, ◌-◌, ◌<◌, ◌≤◌, ◌==◌, ◌&&◌, Bool, true, false, if◌then◌else◌, nat_le, List, [], ◌∷◌, ◌++◌, length, fold, Option, Some, None, refl, sym, ap, ◌∙◌, subst, arith}
-use Rattle.std.specs.Option.{option_and_then}
+use Rattle.std.proofs.Common.{◌≡◌, ℕ, ◌+◌, ◌-◌, ◌<◌, ◌==◌, ◌&&◌, Bool, true, false, nat_le, List, [], ◌∷◌, ◌++◌, length, Option, Some, None, refl, sym, ap, ◌∙◌, arith}
 use Rattle.std.proofs.lemmas.Bool.{eqb-true, leb-false}
 use Rattle.pc_base.specs.Addresses.{addr_of}
 use Rattle.pc_base.specs.declared.effect.Effect.{Effect}
@@ -17,14 +16,14 @@ use Rattle.ipv4_packet.specs.Fields.{source_of}
 use Rattle.tft_match.specs.Chosen.{chosen}
 use Rattle.bearer_state.specs.declared.version.ActiveBearer.{ActiveBearer}
 use Rattle.bearer_state.specs.Version.{bearer_at}
-use Rattle.packet_steps.specs.Rows.{ForwardedRow, HeldRow}
+use Rattle.packet_steps.specs.Rows.{HeldRow}
 use Rattle.packet_steps.specs.Messages.{gpdu}
 use Rattle.packet_steps.specs.Past.{Past, row_for, with_row, with_held}
 use Rattle.packet_steps.specs.Policing.{passes}
 use Rattle.packet_steps.specs.Verdicts.{tried, notice, judged_up, judged_to, judged_down, bearer_for, judged_by_way, is_packet, at_moment, judged}
 use Rattle.packet_steps.specs.Change.{bearer_of, fated, released_to, released_by, released}
 use Rattle.gate_model.specs.Holding.{is_held}
-use Rattle.gate_model.specs.Ledger.{Sent, sent_as, sent_by_verdict, sent_by_fate}
+use Rattle.gate_model.specs.Ledger.{sent_as, sent_by_verdict, sent_by_fate}
 use Rattle.gate_model.proofs.Members.{In}
 use Rattle.gate_model.proofs.PastSteps.{either, found_at, found_chosen, found_life}
 

@@ -1,6 +1,5 @@
 -- What every past keeps at one version: of what was forwarded, what is held, and the book.
-use Rattle.std.proofs.Common.{◌≡◌, ◌≢◌, ℕ, ◌+◌, ◌<◌, ◌≤◌, ◌==◌, ◌&&◌, Bool, true, false, if◌then◌else◌, nat_le, List, [], ◌∷◌, ◌++◌, map, fold, length, Option, Some, None, refl, sym, ap, ◌∙◌, subst, inl, inr, ◌⊎◌, arith}
-use Rattle.std.specs.List.{find}
+use Rattle.std.proofs.Common.{◌≡◌, ℕ, ◌+◌, ◌≤◌, ◌==◌, ◌&&◌, Bool, true, false, if◌then◌else◌, nat_le, List, [], ◌∷◌, ◌++◌, fold, length, Option, Some, None, refl, sym, ap, subst, inl, inr, arith}
 use Rattle.std.specs.Option.{option_and_then}
 use Rattle.pc_base.specs.declared.effect.Effect.{Effect}
 use Rattle.pc_base.specs.declared.packet.Packet.{Packet}
@@ -14,13 +13,13 @@ use Rattle.pc_base.specs.Addresses.{addr_of}
 use Rattle.ipv4_packet.specs.Fields.{source_of}
 use Rattle.tft_match.specs.Chosen.{chosen}
 use Rattle.bearer_state.specs.declared.version.ActiveBearer.{ActiveBearer}
-use Rattle.bearer_state.specs.Version.{VersionState, bearer_at}
-use Rattle.charging_book.specs.Happenings.{Happening, forwarded, lives_of, IsLawful}
+use Rattle.bearer_state.specs.Version.{bearer_at}
+use Rattle.charging_book.specs.Happenings.{forwarded, lives_of, IsLawful}
 use Rattle.packet_steps.specs.Rows.{ForwardedRow, HeldRow}
 use Rattle.packet_steps.specs.Messages.{gpdu}
 use Rattle.packet_steps.specs.Past.{Past, row_for, happening_for, with_row, with_held}
 use Rattle.packet_steps.specs.Policing.{passes}
-use Rattle.packet_steps.specs.Verdicts.{tried, judged_up, judged_waiting, judged_to, judged_down, bearer_for, judged_by_way, is_packet, judged_now, at_moment, judged, notice}
+use Rattle.packet_steps.specs.Verdicts.{tried, judged_up, judged_to, judged_down, bearer_for, judged_by_way, is_packet, at_moment, judged, notice}
 use Rattle.packet_steps.specs.Change.{bearer_of, fated, released_to, released_by, released}
 use Rattle.gate_model.proofs.Members.{In, in_append, in_map, of_find, AreDistinct}
 use Rattle.gate_model.proofs.BookSteps.{life_in, active_lives, AreOpen, lawful_all, lives-all}

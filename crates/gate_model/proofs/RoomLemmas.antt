@@ -1,11 +1,10 @@
 -- The counts of a slot rise by at most one an event.
-use Rattle.std.proofs.Common.{◌≡◌, ℕ, ◌+◌, ◌-◌, ◌<◌, ◌≤◌, ◌^◌, List, [], ◌∷◌, fold, length, refl, arith}
-use Rattle.control_steps.specs.declared.command.CommandKind.{CommandKind}
+use Rattle.std.proofs.Common.{◌≡◌, ℕ, ◌+◌, ◌≤◌, List, [], ◌∷◌, fold, length, arith}
 use Rattle.gate_model.specs.declared.event.Event.{Event}
 use Rattle.gate_model.specs.declared.event.Event.TheVariants as event
-use Rattle.gate_model.specs.SlotPast.{SlotPast, new_slot, commanded, met, happens, behind, past_of}
+use Rattle.gate_model.specs.SlotPast.{SlotPast, new_slot, happens, behind, past_of}
 use Rattle.gate_model.specs.Room.{FewEventsLeaveRoom, EventsBoundCounts}
-use Rattle.gate_model.proofs.SessionSteps.{GoesTo, session_goes}
+use Rattle.gate_model.proofs.SessionSteps.{session_goes}
 use Rattle.gate_model.proofs.Sound.{IsSound, new_sound, behind_sound}
 
 record IsWithin (most : ℕ) (past : SlotPast) : Type 0 where

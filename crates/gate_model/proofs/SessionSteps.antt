@@ -3,7 +3,6 @@ use Rattle.std.proofs.Common.{◌≡◌, ◌≢◌, ℕ, ◌+◌, ◌<◌, ◌�
 use Rattle.std.proofs.lemmas.Bool.{false≢true}
 use Rattle.pc_base.specs.declared.packet.Peer.{Peer}
 use Rattle.tft_codec.specs.declared.filter.Filter.{Filter}
-use Rattle.bearer_state.specs.declared.ask.Ask.{Ask}
 use Rattle.bearer_state.specs.declared.bearer.Phase.{Phase}
 use Rattle.bearer_state.specs.declared.bearer.Phase.TheVariants.{Asked, Active}
 use Rattle.bearer_state.specs.declared.bearer.Bearer.{Bearer}
@@ -14,10 +13,10 @@ use Rattle.bearer_state.specs.Changes.{with_first, without_first, placed}
 use Rattle.bearer_state.specs.Lookup.{least_free, is_dedicated}
 use Rattle.bearer_state.specs.Session.{SessionState, new_session}
 use Rattle.control_steps.specs.declared.command.CommandKind.{CommandKind}
-use Rattle.control_steps.specs.declared.command.CommandKind.TheVariants.{Attach, Create, Modify, Release, Delete, AddBearer, Filters, Drop, Ambr, CreateAns, UpdateAns, DeleteAns}
-use Rattle.control_steps.specs.Row.{Row, repeated, pdn_refused, class_refused, created, attached, no_session, no_bearer, modified, released, deleted, not_asked, asked, not_refiltered, refiltered, not_dropped, dropped, not_rerated, rerated, unasked, granted, denied, noted, filters_given, filters_made, row_of}
-use Rattle.control_steps.specs.Table.{ordered_ebi, ordered_qos, qos_asked, with_bearer, with_filters, with_enb, effect, session_after, controlled}
-use Rattle.gate_model.proofs.Members.{In, at_each, each_at, of_map, in_map, IsOther, AreDistinct, other_at, other_if}
+use Rattle.control_steps.specs.declared.command.CommandKind.TheVariants.{Attach, Create, Modify, AddBearer, Filters, Drop, Ambr, CreateAns}
+use Rattle.control_steps.specs.Row.{Row, created, attached, modified, released, deleted, asked, refiltered, dropped, rerated, granted, denied, filters_given, filters_made, row_of}
+use Rattle.control_steps.specs.Table.{ordered_ebi, ordered_qos, qos_asked, with_bearer, with_filters, with_enb, effect, controlled}
+use Rattle.gate_model.proofs.Members.{In, of_map, in_map, IsOther, AreDistinct, other_at, other_if}
 
 abbrev pub life_of : Bearer → ℕ
 life_of bearer = bearer.life

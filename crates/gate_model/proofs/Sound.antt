@@ -1,29 +1,25 @@
 -- What every past of a slot keeps, kept by each command and each packet.
-use Rattle.std.proofs.Common.{◌≡◌, ◌≢◌, ℕ, ◌+◌, ◌<◌, ◌≤◌, ◌==◌, ◌&&◌, Bool, true, false, not, List, [], ◌∷◌, ◌++◌, map, fold, Option, Some, None, refl, sym, ap, ◌∙◌, subst, inl, inr, ◌⊎◌, arith}
-use Rattle.std.specs.List.{filter}
-use Rattle.std.proofs.lemmas.Bool.{false≢true, cases_Bool, eqb-true, eqb-false, ne_eqb, and_left, and_right}
-use Rattle.pc_base.specs.declared.effect.Effect.{Effect}
+use Rattle.std.proofs.Common.{◌≡◌, ℕ, ◌+◌, ◌≤◌, ◌==◌, ◌&&◌, Bool, true, false, not, List, [], ◌∷◌, fold, refl, sym, ap, ◌∙◌, subst, inl, inr, arith}
+use Rattle.std.proofs.lemmas.Bool.{cases_Bool, eqb-true, eqb-false, ne_eqb, and_left, and_right}
 use Rattle.pc_base.specs.declared.packet.Packet.{Packet}
-use Rattle.bearer_state.specs.declared.version.ActiveBearer.{ActiveBearer}
 use Rattle.bearer_state.specs.Qos.{is_guaranteed}
-use Rattle.bearer_state.specs.Session.{SessionState, new_session}
+use Rattle.bearer_state.specs.Session.{SessionState}
 use Rattle.bearer_state.specs.Version.{VersionState, version_of, actives}
-use Rattle.charging_book.specs.Happenings.{lives_of, IsLawful}
+use Rattle.charging_book.specs.Happenings.{lives_of}
 use Rattle.control_steps.specs.declared.command.CommandKind.{CommandKind}
-use Rattle.control_steps.specs.Table.{controlled}
-use Rattle.packet_steps.specs.Rows.{ForwardedRow, HeldRow}
+use Rattle.packet_steps.specs.Rows.{ForwardedRow}
 use Rattle.packet_steps.specs.Past.{Past, new_past}
 use Rattle.packet_steps.specs.Policing.{mbr, ambr, same_way, is_of_life, is_of_rates}
-use Rattle.packet_steps.specs.Change.{has_life, marks, markers, marked, released, learnt}
+use Rattle.packet_steps.specs.Change.{has_life, marks, markers, marked, learnt}
 use Rattle.packet_steps.specs.Verdicts.{judged}
 use Rattle.gate_model.specs.SlotPast.{SlotPast, new_slot, next_session, next_version, commanded, met, happens, behind, past_of}
 use Rattle.gate_model.specs.declared.event.Event.{Event}
 use Rattle.gate_model.specs.declared.event.Event.TheVariants as event
-use Rattle.gate_model.proofs.Members.{In, in_map, of_map, AreDistinct}
+use Rattle.gate_model.proofs.Members.{In, of_map, AreDistinct}
 use Rattle.gate_model.proofs.SessionSteps.{AreLived, GoesTo, session_goes, new_lived}
 use Rattle.gate_model.proofs.BookSteps.{life_in, active_lives, of_has, AreOpen, marks_may, lawful_all, lives-all}
 use Rattle.gate_model.proofs.PolicedRows.{PolicedBy, ArePolicedNow, none_left}
-use Rattle.gate_model.proofs.ActiveSteps.{actives_apart, IsOld, actives_old, stays_old, IsSame, same_bearer, begins_fresh}
+use Rattle.gate_model.proofs.ActiveSteps.{actives_apart, IsOld, actives_old, stays_old, same_bearer, begins_fresh}
 use Rattle.gate_model.proofs.PastSteps.{IsPast, past_keeps, Keeps, judged_kept, all_released}
 
 pub record IsSound (past : SlotPast) : Type 0 where

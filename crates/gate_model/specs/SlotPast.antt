@@ -1,5 +1,5 @@
 -- A slot's past is one fold over its events.
-use Rattle.std.specs.Prelude.{ℕ, ◌+◌, List, [], ◌∷◌, ◌++◌, fold, drop, length}
+use Rattle.std.specs.Prelude.{ℕ, ◌+◌, List, ◌++◌, fold, drop, length}
 use Rattle.pc_base.specs.declared.effect.Effect.{Effect}
 use Rattle.pc_base.specs.declared.packet.Packet.{Packet}
 use Rattle.pc_base.specs.declared.packet.Verdict.{Verdict}

@@ -1,6 +1,5 @@
 //! A copy of a session.
-ghost use Rattle.std.specs.Prelude.{◌≡◌, IfOk, map};
-ghost use Rattle.bearer_state.specs.Bearer.{AreBearers};
+ghost use Rattle.std.specs.Prelude.{◌≡◌, IfOk};
 
 use crate::NoMemory;
 use bearer_state::{Bearer, Bearers, Kept, Session};

@@ -1,5 +1,5 @@
 //! What becomes of a packet, by the plain lists.
-ghost use Rattle.std.specs.Prelude.{◌≡◌, ℕ, ◌<◌, ◌^◌, length, IfOk, IfSome};
+ghost use Rattle.std.specs.Prelude.{◌≡◌, ◌<◌, ◌^◌, length, IfOk, IfSome};
 ghost use Rattle.std.specs.Option.{option_copied};
 ghost use Rattle.bearer_state.specs.Bearer.{IsEbi};
 ghost use Rattle.bearer_state.specs.Version.{bearer_at};
@@ -164,6 +164,5 @@ fn active_at<'v>(version: &'v Version, index: u8) -> Option<&'v ActiveBearer>
     ensures value { option_copied result ≡ bearer_at version.now.bearers index }
     ensures ebi { IfSome result (λ bearer. IsEbi bearer.now.ebi) }
 {
-    let _bearers = version.bearers();
     version.bearer_at(index)
 }

@@ -1,6 +1,6 @@
 //! What the reference gateway keeps of packets.
 ghost use Rattle.std.specs.Prelude.{◌≡◌, IfOk, OnOk, unwrap_or};
-ghost use Rattle.packet_steps.specs.Past.{row_for, with_row, with_held};
+ghost use Rattle.packet_steps.specs.Past.{row_for, with_row};
 ghost use Rattle.packet_steps.specs.Policing.{costs, history_for, is_policed_with, rate_for, passes};
 ghost use Rattle.gate_model.specs.Memory.{past_at};
 
@@ -39,10 +39,9 @@ impl Model for Memory {
 }
 
 impl Memory {
-    ghost use Rattle.std.specs.Prelude.{ℕ, [], ◌∷◌, ◌++◌, None, Some, map, if◌then◌else◌};
+    ghost use Rattle.std.specs.Prelude.{[], ◌∷◌, ◌++◌, None, Some, map, if◌then◌else◌};
     ghost use Rattle.charging_book.specs.Postings.{happening_of};
     ghost use Rattle.packet_steps.specs.Past.{happening_for};
-    ghost use Rattle.packet_steps.specs.Rows.{ForwardedRow, HeldRow};
     ghost use Rattle.gate_model.specs.Memory.{MemoryState};
 
     /// Nothing yet.
@@ -157,12 +156,19 @@ impl Memory {
           charged = self.old.charged ++ happening_for row ∷ [];
         }) }
     {
+        let Forwarded {
+            life,
+            up,
+            octets,
+            at,
+            ..
+        } = row;
         self.forwarded.push(row)?;
         self.charged.push(Posting::Packet {
-            life: row.life,
-            up: row.up,
-            octets: row.octets,
-            at: row.at,
+            life,
+            up,
+            octets,
+            at,
         })?;
         Ok(())
     }

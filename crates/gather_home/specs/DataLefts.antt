@@ -1,5 +1,5 @@
 -- The items of one slot that are left: those that are found, the kept one, and those of orders that were not taken.
-use Rattle.std.specs.Prelude.{ℕ, ◌==◌, if◌then◌else◌, List, [], ◌∷◌, ◌++◌, map, slice_index_or, Option}
+use Rattle.std.specs.Prelude.{ℕ, ◌==◌, if◌then◌else◌, List, [], ◌∷◌, map, slice_index_or, Option}
 use Rattle.std.specs.Prelude.{Some, None, Vec}
 use Rattle.worker_core.specs.declared.data_order.DataOrder.{DataOrder}
 use Rattle.worker_core.specs.declared.data_order.DataOrder.TheVariants.{Arrive, Item, Leave}

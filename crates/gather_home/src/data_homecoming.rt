@@ -1,5 +1,5 @@
 //! All halves come home.
-ghost use Rattle.std.specs.Prelude.{◌≡◌, ◌++◌, map, All, IfOk, IfErr};
+ghost use Rattle.std.specs.Prelude.{◌≡◌, map, IfOk, IfErr};
 ghost use Rattle.gather_home.specs.Homecomings.{somes};
 ghost use Rattle.migration.specs.DataPlaces.{names_of};
 ghost use Rattle.gather_home.specs.DataHomecomings.{AreEnds, AtSlots, ComeToAccepted};

@@ -1,6 +1,6 @@
 //! What is left of a side and its workers, until each half is home.
-ghost use Rattle.std.specs.Prelude.{◌≡◌, ◌≤◌, ◌<◌, ◌+◌, ◌++◌, ℕ, [], None, Some, map};
-ghost use Rattle.std.specs.Prelude.{vec_len, All, OnOk, IfOk, IfErr};
+ghost use Rattle.std.specs.Prelude.{◌≡◌, ◌<◌, ◌+◌, [], None, Some, map};
+ghost use Rattle.std.specs.Prelude.{vec_len, OnOk, IfOk, IfErr};
 ghost use Rattle.gather_home.specs.Homecomings.{somes};
 ghost use Rattle.migration.specs.DataPlaces.{names_of};
 ghost use Rattle.migration.specs.DataSides.{BySlot};

@@ -1,5 +1,5 @@
 //! What is left of a side and its workers, until each half is found.
-ghost use Rattle.std.specs.Prelude.{◌≡◌, ◌≤◌, ◌<◌, ◌+◌, ℕ, [], None, map, vec_len, OnOk, IfOk, IfErr};
+ghost use Rattle.std.specs.Prelude.{◌≡◌, ◌<◌, ◌+◌, ℕ, [], None, map, vec_len, OnOk, IfOk, IfErr};
 ghost use Rattle.std.specs.List.{sum_by};
 ghost use Rattle.worker_core.specs.Names.{weight};
 ghost use Rattle.migration.specs.Places.{names_of, weight_at};

@@ -9,7 +9,7 @@ use Rattle.ipv4_packet.specs.Fields.{version_of, header_words, total_length}
 use Rattle.ipv4_packet.specs.Packet.{IsPacket}
 use Rattle.ipv4_packet.specs.Payload.{ports_of, spi_of}
 use Rattle.ipv4_packet.specs.Refusal.{first_fault}
-use Rattle.ipv4_packet.proofs.PacketLemmas.{spells_front}
+use Rattle.ipv4_packet.proofs.PacketLemmas.{spells_prefix}
 
 pub some_code : (fault : CBad) → 0 < message_code fault
 some_code bad.Short = omega arith
@@ -30,7 +30,7 @@ pub plain_whole : (octets : List ℕ) (total : ℕ) → total ≡ total_length o
 plain_whole octets total told first long here =
     let version : version_of octets ≡ 4 = ap (λ n. n / 16) first in
     let words : header_words octets ≡ 5 = ap (λ n. n % 16) first in
-    (spells_front octets total told version (omega (arith, words)) (omega (arith, words, long)) here).whole
+    (spells_prefix octets total told version (omega (arith, words)) (omega (arith, words, long)) here).whole
 
 pub plain_faultless : (octets : List ℕ) (total : ℕ) → total ≡ total_length octets → slice_index octets 0 ≡ 0x45
     → 20 ≤ total → total ≤ length octets → first_fault octets ≡ None

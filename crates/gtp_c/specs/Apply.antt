@@ -50,7 +50,7 @@ abbrev pub tft_code : List TftFilter → Option Tft → ℕ → ℕ → ℕ
 tft_code filters None room needed = 13
 tft_code filters (Some tft) room needed = made_code (applied (filters_said filters) tft) room needed
 
--- 27 for too many structs, 13 for no operation, 17 to 19 where it isn't applied, 21 where the room is too short
+-- 27 for too many structs, 13 for no operation, 17 to 19 where it isn't applied, 21 where the buffer is too short
 abbrev pub apply_code : List TftFilter → ℕ → List TftFilter → ℕ → ℕ
 apply_code filters operation entries room =
     if nat_lt 16 (length filters) || nat_lt 15 (length entries) then 27

@@ -44,6 +44,6 @@ Says said octets head body =
     × (said.body_from + said.body_len ≤ length octets)
     × (take said.body_len (drop said.body_from octets) ≡ body)
 
--- the payload is longer than a length field says, or the room is too short
+-- the payload is longer than a length field says, or the buffer is too short
 abbrev pub gpdu_code : ℕ → ℕ → ℕ
 gpdu_code payload room = if nat_lt 65535 payload then 22 else if nat_lt room 8 then 21 else 0

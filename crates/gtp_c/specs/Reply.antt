@@ -1,4 +1,4 @@
--- The replies of GTPv2-C that are written into a caller's room.
+-- The replies of GTPv2-C that are written into a caller's buffer.
 use Rattle.std.specs.Prelude.{
   ℕ,
   ◌==◌,
@@ -22,7 +22,7 @@ use Rattle.gtpv2_msg.specs.Refusal.{header_fault, refusal_of}
 use Rattle.gtpv2_msg.specs.declared.fault.CBad.{CBad}
 use Rattle.gtpv2_msg.specs.declared.fault.CBad.TheVariants as bad
 use Rattle.gtp_c_base.specs.Fault.{code_of}
-use Rattle.gtp_c_base.specs.Room.{Writes, WritesNothing}
+use Rattle.gtp_c_base.specs.Buffer.{Writes, WritesNothing}
 
 -- the fault of a number: 10 is a missing element, 11 an incorrect one
 abbrev pub fault_said : ℕ → ℕ → ℕ → Option CBad

@@ -10,18 +10,14 @@ ghost use Rattle.std.specs.Prelude.{
   length,
   map,
   take,
-  not,
   Ok,
-  Err,
   Some,
-  None,
   MatchOption,
   IfSome,
 };
-ghost use Rattle.std.specs.List.{list_any, list_all};
+ghost use Rattle.std.specs.List.{list_all};
 ghost use Rattle.tft_codec.specs.Apply.{applied, has_id, has_any, has_each, replaced, without};
 ghost use Rattle.tft_codec.specs.Component.{has};
-ghost use Rattle.tft_codec.specs.declared.tft.Tft.{Tft};
 ghost use Rattle.gtp_c_base.specs.Filter.{filter_said, ids_said, tft_said};
 ghost use Rattle.gtp_c.specs.Apply.{filters_said, apply_code, no_code, room_for};
 
@@ -103,32 +99,32 @@ fn replacement(entries: &[TftFilter], filter: &TftFilter) -> TftFilter
     }
 }
 
-/// Writes filters to the front of a room.
+/// Writes filters to the start of a buffer.
 fn put_filters(filters: &[TftFilter], out: &mut [TftFilter])
     requires { length filters.now ≤ length out.old }
     ensures len { length out.new ≡ length out.old }
-    ensures front { take (length filters.now) out.new ≡ filters.now }
+    ensures prefix { take (length filters.now) out.new ≡ filters.now }
 {
-    let (front, _) = out.split_at_mut(filters.len());
-    front.copy_from_slice(filters);
+    let (prefix, _) = out.split_at_mut(filters.len());
+    prefix.copy_from_slice(filters);
 }
 
-/// Writes filters, and behind them entries, to the front of a room.
+/// Writes filters, and behind them entries, to the start of a buffer.
 fn put_both(filters: &[TftFilter], entries: &[TftFilter], out: &mut [TftFilter])
     requires { length filters.now + length entries.now ≤ length out.old }
     ensures len { length out.new ≡ length out.old }
-    ensures front { take (length filters.now + length entries.now) out.new ≡ filters.now ++ entries.now }
+    ensures prefix { take (length filters.now + length entries.now) out.new ≡ filters.now ++ entries.now }
 {
-    let (front, rest) = out.split_at_mut(filters.len());
-    front.copy_from_slice(filters);
+    let (prefix, rest) = out.split_at_mut(filters.len());
+    prefix.copy_from_slice(filters);
     put_filters(entries, rest);
 }
 
-/// Writes filters, each replaced by the entry of its identifier, to the front of a room.
+/// Writes filters, each replaced by the entry of its identifier, to the start of a buffer.
 fn put_replaced(filters: &[TftFilter], entries: &[TftFilter], out: &mut [TftFilter])
     requires { length filters.now ≤ length out.old }
     ensures len { length out.new ≡ length out.old }
-    ensures front { filters_said (take (length filters.now) out.new)
+    ensures prefix { filters_said (take (length filters.now) out.new)
         ≡ map (replaced (filters_said entries.now)) (filters_said filters.now) }
 {
     if let [one, rest @ ..] = filters
@@ -139,12 +135,12 @@ fn put_replaced(filters: &[TftFilter], entries: &[TftFilter], out: &mut [TftFilt
     }
 }
 
-/// Writes the filters without those of the entries' identifiers to the front of a room, and says how many.
+/// Writes the filters without those of the entries' identifiers to the start of a buffer, and says how many.
 fn put_left(filters: &[TftFilter], entries: &[TftFilter], out: &mut [TftFilter]) -> usize
     requires { length filters.now ≤ length out.old }
     ensures len { length out.new ≡ length out.old }
     ensures few { result ≤ length filters.now }
-    ensures front { filters_said (take result out.new)
+    ensures prefix { filters_said (take result out.new)
         ≡ without (filters_said filters.now) (ids_said entries.now) }
 {
     let [one, rest @ ..] = filters else {
@@ -241,7 +237,7 @@ fn put_applied(
 
 /// Writes the filters that a template's operation makes of others: `operation` is its code (table 10.5.162),
 /// and `entries` are its filters, of a removal those whose identifiers go. `needed` is how many are written, or,
-/// where the room is too short, how many it must have.
+/// where the buffer is too short, how many it must have.
 #[unsafe(no_mangle)]
 pub extern "C" fn gtp_c_tft_apply(
     filters: &[TftFilter],

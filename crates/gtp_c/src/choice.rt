@@ -1,5 +1,5 @@
 //! Filters in the caller's memory: which packets fit one, and the choice among them (TS 24.008, 10.5.6.12).
-ghost use Rattle.std.specs.Prelude.{◌≡◌, ◌≢◌, ◌==◌, not, map, Some, None, MatchOption, if◌then◌else◌};
+ghost use Rattle.std.specs.Prelude.{◌≡◌, ◌≢◌, ◌==◌, not, map, Some, None, MatchOption};
 ghost use Rattle.std.specs.List.{list_all};
 ghost use Rattle.ipv4_packet.specs.Packet.{packet_of};
 ghost use Rattle.ipv4_packet.specs.Refusal.{first_fault};

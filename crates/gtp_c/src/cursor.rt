@@ -1,5 +1,5 @@
 //! Elements one after another.
-ghost use Rattle.std.specs.Prelude.{◌≡◌, ◌≢◌, ◌+◌, ◌<◌, ◌≤◌, length};
+ghost use Rattle.std.specs.Prelude.{◌≡◌, ◌≢◌};
 ghost use Rattle.gtpv2_ie.specs.Stand.{StandsAt};
 ghost use Rattle.gtp_c.specs.Cursor.{raw_said, ie_code};
 

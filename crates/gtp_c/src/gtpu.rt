@@ -1,16 +1,12 @@
 //! GTP-U.
 ghost use Rattle.std.specs.Prelude.{
   ◌≡◌,
-  ℕ,
   ◌+◌,
   ◌-◌,
-  ◌≤◌,
   ◌<◌,
   ◌++◌,
   ◌==◌,
-  List,
   length,
-  take,
   drop,
   MatchOption,
   IfSome,
@@ -18,14 +14,13 @@ ghost use Rattle.std.specs.Prelude.{
   if◌then◌else◌,
   Some,
   None,
-  nat_lt,
 };
 ghost use Rattle.gtpu_codec.specs.Message.{message_of};
 ghost use Rattle.gtpu_codec.specs.Refusal.{first_fault};
 ghost use Rattle.gtpu_codec.specs.Text.{gpdu_head, spelling};
 ghost use Rattle.gtpu_codec.specs.declared.message.GtpU.TheVariants as messages;
 ghost use Rattle.gtp_c.specs.Gtpu.{Says, code_of, bad_number, gpdu_code};
-ghost use Rattle.gtp_c_base.specs.Room.{Writes};
+ghost use Rattle.gtp_c_base.specs.Buffer.{Writes};
 
 use gtp_c_base::code::{EXTENSION, KIND, LENGTH, NO_ROOM, NOT_GTP, SHORT, TOO_LONG, VERSION};
 use gtp_c_base::put;
@@ -94,7 +89,7 @@ fn plain_gpdu(bytes: &[u8]) -> Option<GtpuHead>
     })
 }
 
-/// The message at the front of some octets.
+/// The message at the start of some octets.
 #[unsafe(no_mangle)]
 pub extern "C" fn gtp_c_gtpu_read(bytes: &[u8], head: &mut GtpuHead) -> u32
     ensures code { result ≡ code_of (first_fault bytes.now) }

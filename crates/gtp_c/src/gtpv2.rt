@@ -1,5 +1,5 @@
 //! GTPv2-C: the head of a message.
-ghost use Rattle.std.specs.Prelude.{◌≡◌, ◌≢◌, ◌+◌, ◌^◌, ◌≤◌, ◌<◌, ◌==◌, true, is_some, length, if◌then◌else◌, Some};
+ghost use Rattle.std.specs.Prelude.{◌≡◌, ◌≢◌, ◌^◌, ◌<◌, ◌==◌, true, is_some, if◌then◌else◌, Some};
 ghost use Rattle.std.specs.Prelude.{None, MatchOption};
 ghost use Rattle.gtpv2_msg.specs.Refusal.{header_fault};
 ghost use Rattle.gtp_c_base.specs.Fault.{code_of};
@@ -29,7 +29,7 @@ fn teid_numbers(teid: Option<u32>) -> (u8, u32)
     }
 }
 
-/// The head of the message at the front of some octets: the one caller of `read_header`, which is so compiled into it.
+/// The head of the message at the start of some octets: the one caller of `read_header`, which is so compiled into it.
 #[tactic(auto, using(crate::proofs::HeadLemmas::some_code))]
 pub(crate) fn head_of(bytes: &[u8], head: &mut Gtpv2Head) -> u32
     ensures code { result ≡ code_of (header_fault bytes.now) }
@@ -56,7 +56,7 @@ pub(crate) fn head_of(bytes: &[u8], head: &mut Gtpv2Head) -> u32
     }
 }
 
-/// The head of the message at the front of some octets.
+/// The head of the message at the start of some octets.
 #[unsafe(no_mangle)]
 pub extern "C" fn gtp_c_gtpv2_head(bytes: &[u8], head: &mut Gtpv2Head) -> u32
     ensures code { result ≡ code_of (header_fault bytes.now) }

@@ -16,7 +16,7 @@ pub struct Imsi {
     pub count: u8,
 }
 
-/// Writes the digits of octets to the front of a room for two of each, and says how many they are; None where
+/// Writes the digits of octets to the start of a buffer for two of each, and says how many they are; None where
 /// an octet isn't two digits.
 #[tactic(auto, unfolding(gtpv2_ie::specs::Imsi::digits_of))]
 fn fill(octets: &[u8], digits: &mut [u8]) -> Option<usize>

@@ -29,7 +29,7 @@ pub struct Ip4Head {
     pub has_spi: u8,
 }
 
-/// The packet at the front of octets, where it has no options, as packets commonly come in; None of all else.
+/// The packet at the start of octets, where it has no options, as packets commonly come in; None of all else.
 #[inline]
 #[tactic(auto, using(crate::proofs::HeadLemmas::plain_faultless))]
 fn plain_packet(bytes: &[u8]) -> Option<Ip4<'_>>
@@ -46,7 +46,7 @@ fn plain_packet(bytes: &[u8]) -> Option<Ip4<'_>>
     Some(Ip4::known(&bytes[..total]))
 }
 
-/// The packet at the front of octets: one without options wants fewer tests than all that a header may have.
+/// The packet at the start of octets: one without options wants fewer tests than all that a header may have.
 #[inline]
 pub(crate) fn packet_at(bytes: &[u8]) -> Result<Ip4<'_>, IpBad>
     ensures packet { IfOk result (λ packet. packet ≡ packet_of bytes.now) }
@@ -100,7 +100,7 @@ fn spi_beside(packet: &Ip4<'_>, ports: Option<(u16, u16)>) -> Option<u32>
     }
 }
 
-/// The fields of the packet at the front of some octets (RFC 791, section 3.1).
+/// The fields of the packet at the start of some octets (RFC 791, section 3.1).
 #[unsafe(no_mangle)]
 pub extern "C" fn gtp_c_ip4_read(bytes: &[u8], head: &mut Ip4Head) -> u32
     ensures code { result ≡ code_of (first_fault bytes.now) }

@@ -1,8 +1,8 @@
 //! A policer in the caller's memory.
-ghost use Rattle.std.specs.Prelude.{◌≡◌, ◌==◌, ◌^◌, ◌≤◌, ◌<◌, nat_lt, ◌||◌, if◌then◌else◌, Some, None, MatchBool};
-ghost use Rattle.rate_policer.specs.Buckets.{asked, lets_through, full_bucket};
+ghost use Rattle.std.specs.Prelude.{◌≡◌, ◌==◌, ◌<◌, ◌||◌, if◌then◌else◌, Some, None, MatchBool};
+ghost use Rattle.rate_policer.specs.Buckets.{asked, full_bucket};
 ghost use Rattle.rate_policer.specs.Conforming.{cost_of};
-ghost use Rattle.gtp_c.specs.Policer.{bucket_of, is_wrong, is_late, ask_code, new_code};
+ghost use Rattle.gtp_c.specs.Policer.{bucket_of, is_wrong, ask_code, new_code};
 
 use gtp_c_base::code::{POLICED, RANGE};
 use pc_base::{Kbps, LAST_MOMENT, Moment};

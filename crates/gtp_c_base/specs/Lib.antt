@@ -1,3 +1,3 @@
 pub mod Fault
 pub mod Filter
-pub mod Room
+pub mod Buffer

@@ -60,7 +60,7 @@ pub const EMPTY: u32 = 19;
 /// Memory ran out.
 pub const NO_MEMORY: u32 = 20;
 
-/// The room is too short; `needed` says how much there must be.
+/// The buffer is too short; `needed` says how much there must be.
 pub const NO_ROOM: u32 = 21;
 
 /// A payload is longer than its length field can say.

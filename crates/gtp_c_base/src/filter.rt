@@ -75,11 +75,11 @@ pub fn numbers_of(component: Component) -> TftComponent
     }
 }
 
-/// Writes the numbers of components to the front of others.
+/// Writes the numbers of components to the start of others.
 fn write_components(components: &[Component], said: &mut [TftComponent])
     requires { length components.now ≤ length said.old }
     ensures len { length said.new ≡ length said.old }
-    ensures front { map component_said (take (length components.now) said.new) ≡ components.now }
+    ensures prefix { map component_said (take (length components.now) said.new) ≡ components.now }
 {
     if let [one, rest @ ..] = components
         && let Some((first, others)) = said.split_first_mut()

@@ -29,7 +29,7 @@ fn element_of(bad: &CBad, old: Gtpv2Fault) -> Gtpv2Fault
     }
 }
 
-/// Looks the message at the front of some octets through, with the elements that its type asks for: 0, or the
+/// Looks the message at the start of some octets through, with the elements that its type asks for: 0, or the
 /// first fault.
 #[unsafe(no_mangle)]
 pub extern "C" fn gtp_c_gtpv2_check(alloc: Global, bytes: &[u8], fault: &mut Gtpv2Fault) -> u32

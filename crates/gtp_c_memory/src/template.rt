@@ -53,12 +53,12 @@ fn entry_count(tft: &Tft) -> usize
     }
 }
 
-/// Writes the structs of a bearer's filters to the front of others; false only where one has more than nine
+/// Writes the structs of a bearer's filters to the start of others; false only where one has more than nine
 /// components.
 fn put_filters(filters: &[Filter], bearer: u8, entries: &mut [TftFilter]) -> bool
     requires { length filters.now ≤ length entries.old }
     ensures len { length entries.new ≡ length entries.old }
-    ensures front { IsTrue result → map filter_said (take (length filters.now) entries.new) ≡ filters.now }
+    ensures prefix { IsTrue result → map filter_said (take (length filters.now) entries.new) ≡ filters.now }
 {
     if let [one, rest @ ..] = filters
         && let Some((first, others)) = entries.split_first_mut()
@@ -90,11 +90,11 @@ fn entry_of(id: u8, bearer: u8) -> TftFilter
     }
 }
 
-/// Writes the structs of identifiers to the front of others.
+/// Writes the structs of identifiers to the start of others.
 fn put_ids(ids: &[u8], bearer: u8, entries: &mut [TftFilter])
     requires { length ids.now ≤ length entries.old }
     ensures len { length entries.new ≡ length entries.old }
-    ensures front { ids_said (take (length ids.now) entries.new) ≡ ids.now }
+    ensures prefix { ids_said (take (length ids.now) entries.new) ≡ ids.now }
 {
     if let [one, rest @ ..] = ids
         && let Some((first, others)) = entries.split_first_mut()
@@ -118,7 +118,7 @@ fn operation_of(tft: &Tft) -> u8
     }
 }
 
-/// Writes a template's entries to the front of a room.
+/// Writes a template's entries to the start of a buffer.
 fn put_entries(tft: &Tft, bearer: u8, entries: &mut [TftFilter]) -> bool
     requires { entry_count tft.now ≤ length entries.old }
     ensures { IsTrue result
@@ -137,7 +137,7 @@ fn put_entries(tft: &Tft, bearer: u8, entries: &mut [TftFilter]) -> bool
 }
 
 /// Reads a whole template: its operation's code (table 10.5.162), and its filters as filters of a bearer, or, of a
-/// removal, structs of the identifiers alone. `needed` is how many entries it has, also where the room is too short.
+/// removal, structs of the identifiers alone. `needed` is how many entries it has, also where the buffer is too short.
 #[unsafe(no_mangle)]
 pub extern "C" fn gtp_c_tft_read(
     alloc: Global,

@@ -106,21 +106,21 @@ found_is_behind (suc before) (octet ∷ rest) body found =
       chain = inner.chain;
     }
 
-at_the_front : (type : ℕ) (octets body content : List ℕ) (found : ℕ) (rest : List ℕ)
+at_the_start : (type : ℕ) (octets body content : List ℕ) (found : ℕ) (rest : List ℕ)
     → type ∷ octets ≡ content ++ found ∷ rest
     → length content ≡ 0 → IsChain found rest body → IsChain type octets body
-at_the_front type octets body [] found rest split none chain =
+at_the_start type octets body [] found rest split none chain =
     let same_type : found ≡ type = cc in
     let same_rest : rest ≡ octets = cc in
     subst (λ t. IsChain t octets body) same_type (subst (λ others. IsChain found others body) same_rest chain)
-at_the_front type octets body (octet ∷ content) found rest split none chain = absurd (omega (arith, none))
+at_the_start type octets body (octet ∷ content) found rest split none chain = absurd (omega (arith, none))
 
 -- what is found is a chain
 pub found_is_chain : (type : ℕ) (octets body : List ℕ) → body_behind 0 (type ∷ octets) ≡ Some body
     → IsChain type octets body
 found_is_chain type octets body found =
     let behind : IsBehind 0 (type ∷ octets) body = found_is_behind 0 (type ∷ octets) body found in
-    at_the_front type octets body behind.content behind.type behind.rest behind.split behind.count behind.chain
+    at_the_start type octets body behind.content behind.type behind.rest behind.split behind.count behind.chain
 
 -- an optional body that the test gives, as the relation says it
 pub chain_answers : {X : Type 0} (now : X → List ℕ) (found : Option X) (type : ℕ) (octets : List ℕ)

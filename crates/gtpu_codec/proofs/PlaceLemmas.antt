@@ -9,49 +9,49 @@ use Rattle.gtpu_codec.specs.Place.{EndsCounted}
 use Rattle.gtpu_codec.specs.Spelling.{Spells, SpellsBody, SpellsCounted}
 
 record IsEnd (octets body : List ℕ) : Type 0 where
-  front : List ℕ
-  split : octets ≡ front ++ body
+  prefix : List ℕ
+  split : octets ≡ prefix ++ body
 
 chain_end : (type : ℕ) (octets body : List ℕ) → IsChain type octets body → IsEnd octets body
-chain_end _ _ _ (ends body) = record { front = []; split = refl }
+chain_end _ _ _ (ends body) = record { prefix = []; split = refl }
 chain_end _ _ _ (header type units next content rest body more some whole chain) =
     let inner : IsEnd rest body = chain_end next rest body chain in
     record {
-      front = units ∷ content ++ next ∷ inner.front;
+      prefix = units ∷ content ++ next ∷ inner.prefix;
       split = ap (λ r. units ∷ content ++ next ∷ r) inner.split
-          ∙ ap (λ r. units ∷ r) (sym (append_assoc content (next ∷ inner.front) body));
+          ∙ ap (λ r. units ∷ r) (sym (append_assoc content (next ∷ inner.prefix) body));
     }
 
 body_end : (extensions : Bool) (next : ℕ) (octets body : List ℕ) → SpellsBody extensions next octets body
     → IsEnd octets body
 body_end true next octets body chain = chain_end next octets body chain
-body_end false next octets body same = record { front = []; split = sym same }
+body_end false next octets body same = record { prefix = []; split = sym same }
 
 counted_end : (flags : ℕ) (options : Bool) (counted : List ℕ) (seq : Option ℕ) (body : List ℕ)
     → SpellsCounted flags options counted seq body → IsEnd counted body
-counted_end flags false counted seq body spelled = record { front = []; split = sym spelled.1 }
+counted_end flags false counted seq body spelled = record { prefix = []; split = sym spelled.1 }
 counted_end flags true counted seq body spelled =
     let inner : IsEnd (drop 4 counted) body = body_end (has_extensions flags) _ (drop 4 counted) body spelled.2 in
     record {
-      front = take 4 counted ++ inner.front;
+      prefix = take 4 counted ++ inner.prefix;
       split = sym (take-append-drop 4 counted) ∙ ap (λ r. take 4 counted ++ r) inner.split
-          ∙ sym (append_assoc (take 4 counted) inner.front body);
+          ∙ sym (append_assoc (take 4 counted) inner.prefix body);
     }
 
--- what stands behind a front of the first octets of some
-behind_front : (octets front body : List ℕ) (len : ℕ) → len ≤ length (drop 8 octets)
-    → take len (drop 8 octets) ≡ front ++ body
-    → (length front + length body ≡ len) × (take (length body) (drop (8 + length front) octets) ≡ body)
-behind_front octets front body len there split =
+-- what stands behind a prefix of the first octets of some
+behind_prefix : (octets prefix body : List ℕ) (len : ℕ) → len ≤ length (drop 8 octets)
+    → take len (drop 8 octets) ≡ prefix ++ body
+    → (length prefix + length body ≡ len) × (take (length body) (drop (8 + length prefix) octets) ≡ body)
+behind_prefix octets prefix body len there split =
     let rest : List ℕ = drop 8 octets in
-    let count : length front + length body ≡ len
-    = sym (length-append front body) ∙ ap length (sym split) ∙ length-take-le len rest there in
-    let same : take (length front + length body) rest ≡ front ++ body = ap (λ n. take n rest) count ∙ split in (
+    let count : length prefix + length body ≡ len
+    = sym (length-append prefix body) ∙ ap length (sym split) ∙ length-take-le len rest there in
+    let same : take (length prefix + length body) rest ≡ prefix ++ body = ap (λ n. take n rest) count ∙ split in (
       count,
-      ap (take (length body)) (sym (drop-drop (length front) 8 octets))
-          ∙ sym (drop-take (length front) (length body) rest)
-          ∙ ap (drop (length front)) same
-          ∙ drop_at front body (length front) refl,
+      ap (take (length body)) (sym (drop-drop (length prefix) 8 octets))
+          ∙ sym (drop-take (length prefix) (length body) rest)
+          ∙ ap (drop (length prefix)) same
+          ∙ drop_at prefix body (length prefix) refl,
     )
 
 pub ends_counted : (octets : List ℕ) (head : GtpUHead) (body : List ℕ) → Spells octets head body
@@ -59,12 +59,12 @@ pub ends_counted : (octets : List ℕ) (head : GtpUHead) (body : List ℕ) → S
 ends_counted octets head body spelled =
     let inner : IsEnd (counted_in octets) body
     = counted_end (flags_in octets) (has_options (flags_in octets)) (counted_in octets) head.seq body spelled.6 in
-    let found = behind_front octets inner.front body (length_in octets) spelled.5 inner.split in
+    let found = behind_prefix octets inner.prefix body (length_in octets) spelled.5 inner.split in
     let behind : length (drop 8 octets) ≡ length octets - 8 = length-drop 8 octets in
     let whole : 8 ≤ length octets = spelled.0 in
     let there : length_in octets ≤ length (drop 8 octets) = spelled.5 in
-    let count : length inner.front + length body ≡ length_in octets = found.0 in
-    let place : length_in octets - length body ≡ length inner.front = omega (arith, count) in (
+    let count : length inner.prefix + length body ≡ length_in octets = found.0 in
+    let place : length_in octets - length body ≡ length inner.prefix = omega (arith, count) in (
       omega (arith, count),
       omega (arith, whole, there, behind),
       ap (λ n. take (length body) (drop (8 + n) octets)) place ∙ found.1,

@@ -11,7 +11,7 @@ use crate::{GtpUHead, GtpUKind, MANDATORY_LEN, OPTIONS_LEN, UBad};
 use pc_base::Teid;
 use wire_octets::{be16_at, be32_at};
 
-/// The head of the message at the front, and the octets behind its extension headers: the last ones that its length
+/// The head of the message at the start, and the octets behind its extension headers: the last ones that its length
 /// counts. Octets past its length don't count (TS 29.281, section 5.1).
 #[inline(always)]
 pub fn read(bytes: &[u8]) -> Result<(GtpUHead, &[u8]), UBad>

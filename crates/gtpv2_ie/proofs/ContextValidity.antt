@@ -203,18 +203,6 @@ put_holds old new ie holds is new_is =
       octets = omega arith;
     })
 
--- a Context that fits the length field
-pub fits_valid : (c : Context) → HoldsUpTo (length (context_octets c)) c → length (context_octets c) < 2 ^ 16
-    → IsContext c
-fits_valid c holds fits = record {
-  ebi = holds.ebi;
-  cause = holds.cause;
-  tft = holds.tft;
-  fteids = holds.fteids;
-  qos = holds.qos;
-  len = fits;
-}
-
 -- a Context of no elements
 pub holds_none : (raws : List RawIe) → HoldsUpTo (spanned (take 0 raws)) (context_with [])
 holds_none raws = record { ebi = tt; cause = tt; tft = tt; fteids = tt; qos = tt; octets = omega arith }

@@ -13,10 +13,10 @@ last_octet : (octets : List ℕ) (i : ℕ) → i < length octets
     → eqb (length (drop (suc i) octets)) 0 ≡ eqb (i + 1) (length octets)
 last_octet octets i inside = grind (arith, nat_tests, length-drop)
 
-with_digits-append : (front more : List ℕ) (digits : Option (List ℕ))
-    → with_digits (front ++ more) digits ≡ with_digits front (with_digits more digits)
-with_digits-append front more None = refl
-with_digits-append front more (Some digits) = ap Some (append_assoc front more digits)
+with_digits-append : (prefix more : List ℕ) (digits : Option (List ℕ))
+    → with_digits (prefix ++ more) digits ≡ with_digits prefix (with_digits more digits)
+with_digits-append prefix more None = refl
+with_digits-append prefix more (Some digits) = ap Some (append_assoc prefix more digits)
 
 -- the digits from one octet on
 digits_of-drop : (octets : List ℕ) (i : ℕ) → i < length octets
@@ -31,29 +31,29 @@ digits_of-drop octets i inside =
     (sym (add-one i))
 
 -- one octet's digits are put in front
-pub one_octet : (front octets : List ℕ) (i : ℕ) (pair : ℕ × Option ℕ) → i < length octets
+pub one_octet : (prefix octets : List ℕ) (i : ℕ) (pair : ℕ × Option ℕ) → i < length octets
     → digit_pair (get_or octets i 0) (eqb (i + 1) (length octets)) ≡ Some pair
-    → with_digits (front ++ pair_digits pair) (digits_of (drop (i + 1) octets))
-    ≡ with_digits front (digits_of (drop i octets))
-one_octet front octets i pair inside is_pair =
-    with_digits-append front (pair_digits pair) (digits_of (drop (i + 1) octets))
-    ∙ ap (with_digits front)
+    → with_digits (prefix ++ pair_digits pair) (digits_of (drop (i + 1) octets))
+    ≡ with_digits prefix (digits_of (drop i octets))
+one_octet prefix octets i pair inside is_pair =
+    with_digits-append prefix (pair_digits pair) (digits_of (drop (i + 1) octets))
+    ∙ ap (with_digits prefix)
     (sym (digits_of-drop octets i inside ∙ ap (λ p. with_pair p (digits_of (drop (i + 1) octets))) is_pair))
 
 -- one octet that isn't two digits
-pub no_octet : (front octets : List ℕ) (i : ℕ) → i < length octets
+pub no_octet : (prefix octets : List ℕ) (i : ℕ) → i < length octets
     → digit_pair (get_or octets i 0) (eqb (i + 1) (length octets)) ≡ None
-    → with_digits front (digits_of (drop i octets)) ≡ None
-no_octet front octets i inside none =
-    ap (with_digits front)
+    → with_digits prefix (digits_of (drop i octets)) ≡ None
+no_octet prefix octets i inside none =
+    ap (with_digits prefix)
     (digits_of-drop octets i inside ∙ ap (λ p. with_pair p (digits_of (drop (i + 1) octets))) none)
 
 -- behind the last octet nothing is left
-pub no_more : (front octets : List ℕ) (i : ℕ) → length octets ≤ i
-    → with_digits front (digits_of (drop i octets)) ≡ Some front
+pub no_more : (prefix octets : List ℕ) (i : ℕ) → length octets ≤ i
+    → with_digits prefix (digits_of (drop i octets)) ≡ Some prefix
 unfolding digits_of
-no_more front octets i past =
-    ap (λ rest. with_digits front (digits_of rest)) (drop_of_length-le octets past) ∙ ap Some (append-nil front)
+no_more prefix octets i past =
+    ap (λ rest. with_digits prefix (digits_of rest)) (drop_of_length-le octets past) ∙ ap Some (append-nil prefix)
 
 abbrev pub IsDigit : ℕ → Type 0
 IsDigit digit = (48 ≤ digit) × (digit ≤ 57)
@@ -140,19 +140,19 @@ imsi_octets-drop digits at inside =
     ]
 
 -- the octet of one pair is put behind the octets before
-pub more_octets : (front digits : List ℕ) (i : ℕ) → 2 * i < length digits
-    → (front ++ octet_of (get_or digits (2 * i) 0 - 48)
+pub more_octets : (prefix digits : List ℕ) (i : ℕ) → 2 * i < length digits
+    → (prefix ++ octet_of (get_or digits (2 * i) 0 - 48)
     (cond (ltb (2 * i + 1) (length digits)) (get_or digits (2 * i + 1) 0 - 48) 15) ∷ [])
-    ++ imsi_octets (drop (2 * (i + 1)) digits) ≡ front ++ imsi_octets (drop (2 * i) digits)
-more_octets front digits i inside =
+    ++ imsi_octets (drop (2 * (i + 1)) digits) ≡ prefix ++ imsi_octets (drop (2 * i) digits)
+more_octets prefix digits i inside =
     let next : 2 * (i + 1) ≡ 2 * i + 2 = omega arith in
-    append_assoc front _ _ ∙ ap (λ rest. front ++ rest) (rw next (sym (imsi_octets-drop digits (2 * i) inside)))
+    append_assoc prefix _ _ ∙ ap (λ rest. prefix ++ rest) (rw next (sym (imsi_octets-drop digits (2 * i) inside)))
 
 -- behind the last pair nothing is left
-pub no_more_octets : (front digits : List ℕ) (i : ℕ) → length digits ≤ 2 * i
-    → front ++ imsi_octets (drop (2 * i) digits) ≡ front
+pub no_more_octets : (prefix digits : List ℕ) (i : ℕ) → length digits ≤ 2 * i
+    → prefix ++ imsi_octets (drop (2 * i) digits) ≡ prefix
 unfolding imsi_octets
-no_more_octets front digits i past = rw drop_of_length-le (append-nil front)
+no_more_octets prefix digits i past = rw drop_of_length-le (append-nil prefix)
 
 -- an octet of two digits, and one of a last digit
 full_octet : (low high : ℕ) (last : Bool) → IsDigit low → IsDigit high

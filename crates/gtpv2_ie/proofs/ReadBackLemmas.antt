@@ -36,78 +36,78 @@ raw_at_is octets at kind instance len kind_is instance_is len_is =
     raw_of k i n = record { kind = k; instance = i; from = at + 4; to = at + 4 + n }
 
 -- what a header says is what was written
-header_is : (front more value : List ℕ) (kind instance : ℕ) → instance < 16 → length value < 2 ^ 16
-    → raw_at (front ++ (ie_octets kind instance value ++ more)) (length front)
-    ≡ record { kind = kind; instance = instance; from = length front + 4; to = length front + 4 + length value }
-header_is front more value kind instance low fits =
+header_is : (prefix more value : List ℕ) (kind instance : ℕ) → instance < 16 → length value < 2 ^ 16
+    → raw_at (prefix ++ (ie_octets kind instance value ++ more)) (length prefix)
+    ≡ record { kind = kind; instance = instance; from = length prefix + 4; to = length prefix + 4 + length value }
+header_is prefix more value kind instance low fits =
     let text : List ℕ = ie_octets kind instance value ++ more in
-    let third : length front + 1 + 1 ≡ length front + 2 = omega arith in
-    let at_kind : get_or (front ++ text) (length front) 0 ≡ kind =
-    ap (λ k. get_or (front ++ text) k 0) (omega arith) ∙ get_or-append-add front text 0 0 in
-    let at_high : get_or (front ++ text) (length front + 1) 0 ≡ length value / 256 % 256 =
-    get_or-append-add front text 1 0 in
-    let at_low : get_or (front ++ text) (length front + 1 + 1) 0 ≡ length value % 256 =
-    ap (λ k. get_or (front ++ text) k 0) third ∙ get_or-append-add front text 2 0 in
-    let at_instance : get_or (front ++ text) (length front + 3) 0 ≡ instance = get_or-append-add front text 3 0 in
+    let third : length prefix + 1 + 1 ≡ length prefix + 2 = omega arith in
+    let at_kind : get_or (prefix ++ text) (length prefix) 0 ≡ kind =
+    ap (λ k. get_or (prefix ++ text) k 0) (omega arith) ∙ get_or-append-add prefix text 0 0 in
+    let at_high : get_or (prefix ++ text) (length prefix + 1) 0 ≡ length value / 256 % 256 =
+    get_or-append-add prefix text 1 0 in
+    let at_low : get_or (prefix ++ text) (length prefix + 1 + 1) 0 ≡ length value % 256 =
+    ap (λ k. get_or (prefix ++ text) k 0) third ∙ get_or-append-add prefix text 2 0 in
+    let at_instance : get_or (prefix ++ text) (length prefix + 3) 0 ≡ instance = get_or-append-add prefix text 3 0 in
     let len : be16_at (be16_octets (length value)) 0 ≡ length value = be16-again (length value) [] fits in
-    let len_is : value_len (front ++ text) (length front) ≡ length value =
-    ap (λ (h : ℕ). 0x100 * h + get_or (front ++ text) (length front + 1 + 1) 0) at_high
+    let len_is : value_len (prefix ++ text) (length prefix) ≡ length value =
+    ap (λ (h : ℕ). 0x100 * h + get_or (prefix ++ text) (length prefix + 1 + 1) 0) at_high
     ∙ ap (λ (l : ℕ). 0x100 * (length value / 256 % 256) + l) at_low ∙ len in
-    raw_at_is (front ++ text) (length front) kind instance (length value) at_kind
+    raw_at_is (prefix ++ text) (length prefix) kind instance (length value) at_kind
     (ap (λ (i : ℕ). i % 16) at_instance ∙ mod-eq_of_lt low) len_is
 
 -- the value of an element that was written
-pub value_is : (front more value : List ℕ) (kind instance : ℕ)
-    → slice_range (front ++ (ie_octets kind instance value ++ more)) (length front + 4)
-    (length front + 4 + length value) ≡ value
-value_is front more value kind instance =
+pub value_is : (prefix more value : List ℕ) (kind instance : ℕ)
+    → slice_range (prefix ++ (ie_octets kind instance value ++ more)) (length prefix + 4)
+    (length prefix + 4 + length value) ≡ value
+value_is prefix more value kind instance =
     let text : List ℕ = ie_octets kind instance value ++ more in
-    let len : length front + 4 + length value - (length front + 4) ≡ length value = omega arith in
-    ap (λ n. take n (drop (length front + 4) (front ++ text))) len
-    ∙ ap (take (length value)) (drop-append-add front text 4)
+    let len : length prefix + 4 + length value - (length prefix + 4) ≡ length value = omega arith in
+    ap (λ n. take n (drop (length prefix + 4) (prefix ++ text))) len
+    ∙ ap (take (length value)) (drop-append-add prefix text 4)
     ∙ take-append_seam value more
 
 -- one element stands behind what was written before it
-stands_at : (context : Context → List ℕ) (front more : List ℕ) (ie : Element) → ie.instance < 16
+stands_at : (context : Context → List ℕ) (prefix more : List ℕ) (ie : Element) → ie.instance < 16
     → length (plain_octets context ie.value) < 2 ^ 16
-    → StandsAt (front ++ (element_octets context ie ++ more)) (length front)
+    → StandsAt (prefix ++ (element_octets context ie ++ more)) (length prefix)
     (record {
       kind =
           type_octet (kind_of ie.value);
       instance = ie.instance;
-      from = length front + 4;
+      from = length prefix + 4;
       to =
-          end_of context (length front) ie;
+          end_of context (length prefix) ie;
     })
-stands_at context front more ie low fits = record {
-  header = sym (header_is front more (plain_octets context ie.value)
+stands_at context prefix more ie low fits = record {
+  header = sym (header_is prefix more (plain_octets context ie.value)
       (type_octet (kind_of ie.value)) ie.instance low fits);
   inside = simp (length-append) (omega arith);
 }
 
 -- the place behind one element's text
-behind : (context : Context → List ℕ) (front : List ℕ) (ie : Element)
-    → length (front ++ element_octets context ie) ≡ end_of context (length front) ie
-behind context front ie = length-append front (element_octets context ie) ∙ omega arith
+behind : (context : Context → List ℕ) (prefix : List ℕ) (ie : Element)
+    → length (prefix ++ element_octets context ie) ≡ end_of context (length prefix) ie
+behind context prefix ie = length-append prefix (element_octets context ie) ∙ omega arith
 
 -- elements stand behind what was written before them
-stand_behind : (context : Context → List ℕ) (reads : List ℕ → Option Context) (front : List ℕ) (ies : List Element)
+stand_behind : (context : Context → List ℕ) (reads : List ℕ → Option Context) (prefix : List ℕ) (ies : List Element)
     → AllByRecursion (IsWritten context reads) ies
-    → StandBetween (front ++ flat_map (element_octets context) ies) (length front)
-    (places_by context (length front) ies) (length (front ++ flat_map (element_octets context) ies))
-stand_behind context reads front [] written = sym (ap length (append-nil front))
-stand_behind context reads front (ie ∷ ies) written =
+    → StandBetween (prefix ++ flat_map (element_octets context) ies) (length prefix)
+    (places_by context (length prefix) ies) (length (prefix ++ flat_map (element_octets context) ies))
+stand_behind context reads prefix [] written = sym (ap length (append-nil prefix))
+stand_behind context reads prefix (ie ∷ ies) written =
     let text : List ℕ = element_octets context ie in
     let rest : List ℕ = flat_map (element_octets context) ies in
-    let later = stand_behind context reads (front ++ text) ies written.1 in
-    let octets_are : (front ++ text) ++ rest ≡ front ++ (text ++ rest) = append_assoc front text rest in
-    let moved : StandBetween ((front ++ text) ++ rest) (end_of context (length front) ie)
-    (places_by context (end_of context (length front) ie) ies) (length ((front ++ text) ++ rest)) =
-    subst (λ (k : ℕ). StandBetween ((front ++ text) ++ rest) k (places_by context k ies)
-    (length ((front ++ text) ++ rest))) (behind context front ie) later in (
-      stands_at context front rest ie written.0.instance written.0.len,
-      subst (λ (octets : List ℕ). StandBetween octets (end_of context (length front) ie)
-          (places_by context (end_of context (length front) ie) ies) (length octets)) octets_are moved,
+    let later = stand_behind context reads (prefix ++ text) ies written.1 in
+    let octets_are : (prefix ++ text) ++ rest ≡ prefix ++ (text ++ rest) = append_assoc prefix text rest in
+    let moved : StandBetween ((prefix ++ text) ++ rest) (end_of context (length prefix) ie)
+    (places_by context (end_of context (length prefix) ie) ies) (length ((prefix ++ text) ++ rest)) =
+    subst (λ (k : ℕ). StandBetween ((prefix ++ text) ++ rest) k (places_by context k ies)
+    (length ((prefix ++ text) ++ rest))) (behind context prefix ie) later in (
+      stands_at context prefix rest ie written.0.instance written.0.len,
+      subst (λ (octets : List ℕ). StandBetween octets (end_of context (length prefix) ie)
+          (places_by context (end_of context (length prefix) ie) ies) (length octets)) octets_are moved,
     )
 
 pub written_stand : (context : Context → List ℕ) (reads : List ℕ → Option Context) (ies : List Element)
@@ -116,28 +116,28 @@ pub written_stand : (context : Context → List ℕ) (reads : List ℕ → Optio
 written_stand context reads ies written = stand_behind context reads [] ies written
 
 -- elements read behind what was written before them
-read_behind : (context : Context → List ℕ) (reads : List ℕ → Option Context) (front : List ℕ) (ies : List Element)
+read_behind : (context : Context → List ℕ) (reads : List ℕ → Option Context) (prefix : List ℕ) (ies : List Element)
     → AllByRecursion (IsWritten context reads) ies
-    → AreReadAs reads (front ++ flat_map (element_octets context) ies) (places_by context (length front) ies) ies
-read_behind context reads front [] written = tt
-read_behind context reads front (ie ∷ ies) written =
+    → AreReadAs reads (prefix ++ flat_map (element_octets context) ies) (places_by context (length prefix) ies) ies
+read_behind context reads prefix [] written = tt
+read_behind context reads prefix (ie ∷ ies) written =
     let text : List ℕ = element_octets context ie in
     let rest : List ℕ = flat_map (element_octets context) ies in
-    let later = read_behind context reads (front ++ text) ies written.1 in
-    let octets_are : (front ++ text) ++ rest ≡ front ++ (text ++ rest) = append_assoc front text rest in
-    let moved : AreReadAs reads ((front ++ text) ++ rest)
-    (places_by context (end_of context (length front) ie) ies) ies =
-    subst (λ (k : ℕ). AreReadAs reads ((front ++ text) ++ rest) (places_by context k ies) ies)
-    (behind context front ie) later in (
+    let later = read_behind context reads (prefix ++ text) ies written.1 in
+    let octets_are : (prefix ++ text) ++ rest ≡ prefix ++ (text ++ rest) = append_assoc prefix text rest in
+    let moved : AreReadAs reads ((prefix ++ text) ++ rest)
+    (places_by context (end_of context (length prefix) ie) ies) ies =
+    subst (λ (k : ℕ). AreReadAs reads ((prefix ++ text) ++ rest) (places_by context k ies) ies)
+    (behind context prefix ie) later in (
       record {
         kind = refl;
         instance = refl;
         value = ap (value_at reads (type_octet (kind_of ie.value)))
-            (value_is front rest (plain_octets context ie.value) (type_octet (kind_of ie.value)) ie.instance)
+            (value_is prefix rest (plain_octets context ie.value) (type_octet (kind_of ie.value)) ie.instance)
             ∙ written.0.again;
       },
       subst (λ (octets : List ℕ). AreReadAs reads octets
-          (places_by context (end_of context (length front) ie) ies) ies) octets_are moved,
+          (places_by context (end_of context (length prefix) ie) ies) ies) octets_are moved,
     )
 
 pub written_read : (context : Context → List ℕ) (reads : List ℕ → Option Context) (ies : List Element)

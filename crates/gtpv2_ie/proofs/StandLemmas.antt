@@ -16,25 +16,25 @@ use Rattle.gtpv2_ie.specs.Stand.{value_len, raw_at, StandsAt, StandBetween, Stan
 pub StandBetween-push : (octets : List ℕ) (from at : ℕ) (ies : List RawIe) (ie : RawIe)
     → StandBetween octets from ies at → StandsAt octets at ie
     → StandBetween octets from (ies ++ ie ∷ []) ie.to
-StandBetween-push octets from at [] ie front stands = (subst (λ k. StandsAt octets k ie) (sym front) stands, refl)
-StandBetween-push octets from at (first ∷ ies) ie front stands =
-    (front.0, StandBetween-push octets first.to at ies ie front.1 stands)
+StandBetween-push octets from at [] ie prefix stands = (subst (λ k. StandsAt octets k ie) (sym prefix) stands, refl)
+StandBetween-push octets from at (first ∷ ies) ie prefix stands =
+    (prefix.0, StandBetween-push octets first.to at ies ie prefix.1 stands)
 
 -- an element takes octets
 pub StandsAt-long : (octets : List ℕ) (at : ℕ) (ie : RawIe) → StandsAt octets at ie → at + 4 ≤ ie.to
 StandsAt-long octets at ie stands = omega (arith, ap (λ (i : RawIe). i.to) stands.header)
 
-abbrev with_front : List RawIe → Result (List RawIe) IeBad → Result (List RawIe) IeBad
-with_front [] read = read
-with_front (ie ∷ ies) read = with_first ie (with_front ies read)
+abbrev with_prefix : List RawIe → Result (List RawIe) IeBad → Result (List RawIe) IeBad
+with_prefix [] read = read
+with_prefix (ie ∷ ies) read = with_first ie (with_prefix ies read)
 
-with_front-Ok : (ies : List RawIe) → with_front ies (Ok []) ≡ Ok ies
-with_front-Ok [] = refl
-with_front-Ok (ie ∷ ies) = ap (with_first ie) (with_front-Ok ies)
+with_prefix-Ok : (ies : List RawIe) → with_prefix ies (Ok []) ≡ Ok ies
+with_prefix-Ok [] = refl
+with_prefix-Ok (ie ∷ ies) = ap (with_first ie) (with_prefix-Ok ies)
 
-with_front-Err : (ies : List RawIe) (bad : IeBad) → with_front ies (Err bad) ≡ Err bad
-with_front-Err [] bad = refl
-with_front-Err (ie ∷ ies) bad = ap (with_first ie) (with_front-Err ies bad)
+with_prefix-Err : (ies : List RawIe) (bad : IeBad) → with_prefix ies (Err bad) ≡ Err bad
+with_prefix-Err [] bad = refl
+with_prefix-Err (ie ∷ ies) bad = ap (with_first ie) (with_prefix-Err ies bad)
 
 -- behind a value that is there reading goes on
 ies_from-past : (left at : ℕ) (octets : List ℕ) → left ≤ length octets
@@ -91,28 +91,28 @@ ies_from-one octets at ie stands =
     (sym stands.header) read
 
 -- reading goes on behind elements that stand
-ies_from-front : (octets : List ℕ) (at end : ℕ) (ies : List RawIe) → StandBetween octets at ies end
-    → ies_from 0 at (drop at octets) ≡ with_front ies (ies_from 0 end (drop end octets))
-ies_from-front octets at end [] stand = ap (λ k. ies_from 0 k (drop k octets)) stand
-ies_from-front octets at end (ie ∷ ies) stand =
-    ies_from-one octets at ie stand.0 ∙ ap (with_first ie) (ies_from-front octets ie.to end ies stand.1)
+ies_from-prefix : (octets : List ℕ) (at end : ℕ) (ies : List RawIe) → StandBetween octets at ies end
+    → ies_from 0 at (drop at octets) ≡ with_prefix ies (ies_from 0 end (drop end octets))
+ies_from-prefix octets at end [] stand = ap (λ k. ies_from 0 k (drop k octets)) stand
+ies_from-prefix octets at end (ie ∷ ies) stand =
+    ies_from-one octets at ie stand.0 ∙ ap (with_first ie) (ies_from-prefix octets ie.to end ies stand.1)
 
 -- what stands is read
 pub ies_of-Stand : (octets : List ℕ) (ies : List RawIe) → Stand octets ies → ies_of octets ≡ Ok ies
 unfolding ies_from
 ies_of-Stand octets ies stand =
-    ies_from-front octets 0 (length octets) ies stand
-    ∙ ap (λ rest. with_front ies (ies_from 0 (length octets) rest)) (drop-length octets)
-    ∙ with_front-Ok ies
+    ies_from-prefix octets 0 (length octets) ies stand
+    ∙ ap (λ rest. with_prefix ies (ies_from 0 (length octets) rest)) (drop-length octets)
+    ∙ with_prefix-Ok ies
 
 -- ---- what is read stands
 
-at_front : (octets rest : List ℕ) (at k first : ℕ) → drop at octets ≡ rest → get_or rest k 0 ≡ first
+at_prefix : (octets rest : List ℕ) (at k first : ℕ) → drop at octets ≡ rest → get_or rest k 0 ≡ first
     → get_or octets (at + k) 0 ≡ first
-at_front octets rest at k first is here = sym (get_or-drop at octets k 0) ∙ ap (λ xs. get_or xs k 0) is ∙ here
+at_prefix octets rest at k first is here = sym (get_or-drop at octets k 0) ∙ ap (λ xs. get_or xs k 0) is ∙ here
 
-behind_front : (octets rest : List ℕ) (at k : ℕ) → drop at octets ≡ rest → drop (at + k) octets ≡ drop k rest
-behind_front octets rest at k is = ap (λ n. drop n octets) (omega arith) ∙ sym (drop-drop k at octets) ∙ ap (drop k) is
+behind_prefix : (octets rest : List ℕ) (at k : ℕ) → drop at octets ≡ rest → drop (at + k) octets ≡ drop k rest
+behind_prefix octets rest at k is = ap (λ n. drop n octets) (omega arith) ∙ sym (drop-drop k at octets) ∙ ap (drop k) is
 
 header_stands : (octets : List ℕ) (at kind high low last : ℕ) (rest : List ℕ)
     → drop at octets ≡ kind ∷ high ∷ low ∷ last ∷ rest
@@ -121,11 +121,11 @@ header_stands : (octets : List ℕ) (at kind high low last : ℕ) (rest : List �
 header_stands octets at kind high low last rest is =
     let text : List ℕ = kind ∷ high ∷ low ∷ last ∷ rest in
     let first : get_or octets at 0 ≡ kind =
-    ap (λ k. get_or octets k 0) (omega arith) ∙ at_front octets text at 0 kind is refl in
-    let second : get_or octets (at + 1) 0 ≡ high = at_front octets text at 1 high is refl in
+    ap (λ k. get_or octets k 0) (omega arith) ∙ at_prefix octets text at 0 kind is refl in
+    let second : get_or octets (at + 1) 0 ≡ high = at_prefix octets text at 1 high is refl in
     let third : get_or octets (at + 1 + 1) 0 ≡ low =
-    ap (λ k. get_or octets k 0) (omega arith) ∙ at_front octets text at 2 low is refl in
-    let fourth : get_or octets (at + 3) 0 ≡ last = at_front octets text at 3 last is refl in
+    ap (λ k. get_or octets k 0) (omega arith) ∙ at_prefix octets text at 2 low is refl in
+    let fourth : get_or octets (at + 3) 0 ≡ last = at_prefix octets text at 3 last is refl in
     ap (λ k. made k (get_or octets (at + 3) 0) (get_or octets (at + 1) 0) (get_or octets (at + 1 + 1) 0)) first
     ∙ ap (λ i. made kind i (get_or octets (at + 1) 0) (get_or octets (at + 1 + 1) 0)) fourth
     ∙ ap (λ h. made kind last h (get_or octets (at + 1 + 1) 0)) second ∙ ap (made kind last high) third
@@ -173,14 +173,14 @@ stand_from octets zero at (kind ∷ high ∷ low ∷ last ∷ rest) ies is insid
     first_stands octets at len raw ies (ies_from len (at + 4) rest)
     (header_stands octets at kind high low last rest is) refl read
     (λ others. stand_from octets len (at + 4) rest others
-    (behind_front octets (kind ∷ high ∷ low ∷ last ∷ rest) at 4 is) four)
+    (behind_prefix octets (kind ∷ high ∷ low ∷ last ∷ rest) at 4 is) four)
 stand_from octets zero at (a ∷ []) ies is inside read = absurd cc
 stand_from octets zero at (a ∷ b ∷ []) ies is inside read = absurd cc
 stand_from octets zero at (a ∷ b ∷ c ∷ []) ies is inside read = absurd cc
 stand_from octets (suc left) at [] ies is inside read = absurd cc
 stand_from octets (suc left) at (octet ∷ rest) ies is inside read =
     let one : at + 1 ≤ length octets = omega (arith, length-drop at octets, ap length is) in
-    let rest_is = stand_from octets left (at + 1) rest ies (behind_front octets (octet ∷ rest) at 1 is) one read in
+    let rest_is = stand_from octets left (at + 1) rest ies (behind_prefix octets (octet ∷ rest) at 1 is) one read in
     record {
       inside = omega (arith, rest_is.inside);
       stand = subst (λ k. StandBetween octets k ies (length octets)) (omega arith) rest_is.stand;
@@ -202,20 +202,20 @@ ies_from-few at (a ∷ b ∷ c ∷ d ∷ octets) some few = absurd (omega arith)
 
 pub ies_of-short : (octets : List ℕ) → EndsShort octets → ies_of octets ≡ Err Short
 ies_of-short octets short =
-    ies_from-front octets 0 short.at short.before short.front
-    ∙ ap (with_front short.before)
+    ies_from-prefix octets 0 short.at short.before short.prefix
+    ∙ ap (with_prefix short.before)
     (ies_from-few short.at (drop short.at octets) (omega (arith, short.some_left, length-drop short.at octets))
     (omega (arith, short.some_left, short.too_few, length-drop short.at octets)))
-    ∙ with_front-Err short.before Short
+    ∙ with_prefix-Err short.before Short
 
 pub ies_of-length : (octets : List ℕ) → PassesEnd octets → ies_of octets ≡ Err Length
 ies_of-length octets long =
-    ies_from-front octets 0 long.at long.before long.front
-    ∙ ap (with_front long.before) (ies_from-header octets long.at long.header
+    ies_from-prefix octets 0 long.at long.before long.prefix
+    ∙ ap (with_prefix long.before) (ies_from-header octets long.at long.header
     ∙ ap (with_first (raw_at octets long.at))
     (ies_from-cut (value_len octets long.at) (long.at + 4) (drop (long.at + 4) octets)
     (omega (arith, long.passes, long.header, length-drop (long.at + 4) octets))))
-    ∙ with_front-Err long.before Length
+    ∙ with_prefix-Err long.before Length
 
 -- reading takes no memory, so it doesn't run out
 with_first-memory : (raw : RawIe) (read : Result (List RawIe) IeBad) → (read ≡ Err NoMemory → ⊥)
@@ -265,14 +265,6 @@ counted octets (Err Short) found short long memory bad read =
 counted octets (Err Length) found short long memory bad read =
     let other : ies_of octets ≡ Err Length = ies_of-length octets (long refl) in cc
 counted octets (Err NoMemory) found short long memory bad read = absurd (memory refl)
-
--- its error is that of reading
-pub count_fault : (octets : List ℕ) (r : Result ℕ IeBad) (bad : IeBad) → r ≡ Err bad
-    → (r ≡ Err Short → EndsShort octets)
-    → (r ≡ Err Length → PassesEnd octets) → (r ≡ Err NoMemory → ⊥) → ies_of octets ≡ Err bad
-count_fault octets r Short is short long memory = ies_of-short octets (short is)
-count_fault octets r Length is short long memory = ies_of-length octets (long is)
-count_fault octets r NoMemory is short long memory = absurd (memory is)
 
 -- what stands lies inside
 IsInside-at : (octets : List ℕ) (at : ℕ) (ie : RawIe) → ((i : ℕ) → get_or octets i 0 < 256) → StandsAt octets at ie

@@ -67,8 +67,8 @@ abbrev pub pair_digits : ℕ × Option ℕ → List ℕ
 pair_digits pair = pair.0 ∷ second_digit pair.1
 
 abbrev pub with_digits : List ℕ → Option (List ℕ) → Option (List ℕ)
-with_digits front None = None
-with_digits front (Some digits) = Some (front ++ digits)
+with_digits prefix None = None
+with_digits prefix (Some digits) = Some (prefix ++ digits)
 
 abbrev pub with_pair : Option (ℕ × Option ℕ) → Option (List ℕ) → Option (List ℕ)
 with_pair None digits = None

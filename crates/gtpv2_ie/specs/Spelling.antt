@@ -97,10 +97,6 @@ inner_spellings ies = flat_map (element_octets empty_context) ies
 abbrev pub context_octets : Context → List ℕ
 context_octets context = inner_spellings (context_elements context)
 
--- the octets of a value
-abbrev pub value_octets : IeValue → List ℕ
-value_octets value = plain_octets context_octets value
-
 -- the text of an element, and of elements one behind another
 abbrev pub spelling : Element → List ℕ
 spelling ie = element_octets context_octets ie

@@ -63,7 +63,7 @@ pub record HasIes (octets : List ℕ) (count : ℕ) : Type 0 where
 pub record EndsShort (octets : List ℕ) : Type 0 where
   pub before : List RawIe
   pub at : ℕ
-  pub front : StandBetween octets 0 before at
+  pub prefix : StandBetween octets 0 before at
   pub some_left : at < length octets
   pub too_few : length octets < at + 4
 
@@ -71,7 +71,7 @@ pub record EndsShort (octets : List ℕ) : Type 0 where
 pub record PassesEnd (octets : List ℕ) : Type 0 where
   pub before : List RawIe
   pub at : ℕ
-  pub front : StandBetween octets 0 before at
+  pub prefix : StandBetween octets 0 before at
   pub header : at + 4 ≤ length octets
   pub passes : length octets < at + 4 + value_len octets at
 

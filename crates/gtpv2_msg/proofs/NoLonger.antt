@@ -1,10 +1,9 @@
 -- Elements that were read are written in no more octets than they were read from.
-use Rattle.std.proofs.Common.{get_or, map, ◌&&◌, ◌≡◌, ℕ, zero, suc, ◌+◌, ◌-◌, ◌*◌, ◌%◌, ◌≤◌, Bool, true, false, eqb, ltb, leb, cond, List, [], ◌∷◌, ◌++◌, length, drop, Option, Some, None, Result, Ok, Err, refl, ap, subst, ◌∙◌, arith, length-append, length-take}
+use Rattle.std.proofs.Common.{get_or, map, ◌&&◌, ◌≡◌, ℕ, zero, suc, ◌+◌, ◌-◌, ◌*◌, ◌%◌, ◌≤◌, Bool, true, false, eqb, ltb, leb, cond, List, [], ◌∷◌, length, drop, Option, Some, None, Result, Ok, Err, refl, ap, subst, arith, length-append, length-take}
 use Rattle.std.specs.Prelude.{IfSome}
 use Rattle.std.specs.List.{flat_map, filter_map, cons_option}
-use Rattle.std.specs.Option.{option_map, option_and_then, option_or}
+use Rattle.std.specs.Option.{option_map, option_and_then}
 use Rattle.std.proofs.lemmas.Bool.{ltb-false, eqb-true}
-use Rattle.std.proofs.lemmas.List.Concat.{flat_map-append}
 use Rattle.gtpv2_ie.specs.declared.cause.CauseIe.{CauseIe}
 use Rattle.gtpv2_ie.specs.declared.context.Context.{Context}
 use Rattle.gtpv2_ie.specs.declared.fault.IeBad.{IeBad}
@@ -21,7 +20,7 @@ use Rattle.gtpv2_ie.specs.Fields.{ebi_of, pdn_of, paa_of, octets_of, cause_of, f
 use Rattle.gtpv2_ie.specs.Imsi.{digit_pair, pair_digits, second_digit, with_pair, digits_of, if_imsi, imsi_of, imsi_octets}
 use Rattle.gtpv2_ie.specs.Kind.{row, no_context, least_len, kind_at}
 use Rattle.wire_octets.specs.Numbers.{be16_at}
-use Rattle.gtpv2_ie.specs.Spelling.{cause_octets, plain_octets, element_octets, empty_context, inner_spellings, if_some, fteid_element, context_octets, spellings}
+use Rattle.gtpv2_ie.specs.Spelling.{cause_octets, plain_octets, element_octets, empty_context, if_some, fteid_element, context_octets, spellings}
 use Rattle.gtpv2_ie.specs.Stand.{with_first, ies_from, ies_of, value_in}
 use Rattle.gtpv2_ie.specs.Value.{kind_value, value_at, element_at, inner_elements, context_in, context_of, known_elements}
 use Rattle.gtpv2_ie.proofs.ContextValidity.{inner_len, inner_len-append, length-context_octets, one_part}

@@ -101,28 +101,28 @@ own_behind : (first : Option Context) (rest : List Context)
 own_behind None rest = refl
 own_behind (Some c) rest = refl
 
-contexts_behind : (front : List ℕ) (ies : List Element) → AllByRecursion IsElement ies
-    → contexts_in (front ++ spellings ies) (places_by context_octets (length front) ies) ≡ contexts_as_read ies
-contexts_behind front [] are = refl
-contexts_behind front (ie ∷ ies) are =
+contexts_behind : (prefix : List ℕ) (ies : List Element) → AllByRecursion IsElement ies
+    → contexts_in (prefix ++ spellings ies) (places_by context_octets (length prefix) ies) ≡ contexts_as_read ies
+contexts_behind prefix [] are = refl
+contexts_behind prefix (ie ∷ ies) are =
     let text : List ℕ = spelling ie in
     let rest : List ℕ = spellings ies in
-    let octets_are : (front ++ text) ++ rest ≡ front ++ (text ++ rest) = append_assoc front text rest in
-    let behind : length (front ++ text) ≡ end_of context_octets (length front) ie =
-    length-append front text ∙ omega arith in
-    let later = contexts_behind (front ++ text) ies are.1 in
-    let moved : contexts_in ((front ++ text) ++ rest)
-    (places_by context_octets (end_of context_octets (length front) ie) ies) ≡ contexts_as_read ies =
-    subst (λ (k : ℕ). contexts_in ((front ++ text) ++ rest) (places_by context_octets k ies)
+    let octets_are : (prefix ++ text) ++ rest ≡ prefix ++ (text ++ rest) = append_assoc prefix text rest in
+    let behind : length (prefix ++ text) ≡ end_of context_octets (length prefix) ie =
+    length-append prefix text ∙ omega arith in
+    let later = contexts_behind (prefix ++ text) ies are.1 in
+    let moved : contexts_in ((prefix ++ text) ++ rest)
+    (places_by context_octets (end_of context_octets (length prefix) ie) ies) ≡ contexts_as_read ies =
+    subst (λ (k : ℕ). contexts_in ((prefix ++ text) ++ rest) (places_by context_octets k ies)
     ≡ contexts_as_read ies) behind later in
-    let others : contexts_in (front ++ (text ++ rest))
-    (places_by context_octets (end_of context_octets (length front) ie) ies) ≡ contexts_as_read ies =
+    let others : contexts_in (prefix ++ (text ++ rest))
+    (places_by context_octets (end_of context_octets (length prefix) ie) ies) ≡ contexts_as_read ies =
     subst (λ (octets : List ℕ). contexts_in octets
-    (places_by context_octets (end_of context_octets (length front) ie) ies) ≡ contexts_as_read ies) octets_are moved in
+    (places_by context_octets (end_of context_octets (length prefix) ie) ies) ≡ contexts_as_read ies) octets_are moved in
     ap (λ (first : Option (Option (List ReadIe))). cons_option first
-    (contexts_in (front ++ (text ++ rest)) (places_by context_octets (end_of context_octets (length front) ie) ies)))
+    (contexts_in (prefix ++ (text ++ rest)) (places_by context_octets (end_of context_octets (length prefix) ie) ies)))
     (own_again ie.instance ie.value _ are.0.value
-    (value_is front rest (plain_octets context_octets ie.value) (type_octet (kind_of ie.value)) ie.instance))
+    (value_is prefix rest (plain_octets context_octets ie.value) (type_octet (kind_of ie.value)) ie.instance))
     ∙ ap (cons_option (own_context ie)) others ∙ own_behind (first_context ie) (contexts_of ies)
 
 -- the elements of a message that has what its type asks for read back

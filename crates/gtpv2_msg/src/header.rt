@@ -1,4 +1,4 @@
-ghost use Rattle.std.specs.Prelude.{◌≡◌, ◌+◌, ◌<◌, ◌≤◌, ◌^◌, length, IfOk, IfErr, Some, None, IfSome, true};
+ghost use Rattle.std.specs.Prelude.{◌≡◌, ◌+◌, ◌<◌, ◌≤◌, ◌^◌, length, IfOk, IfErr, Some, None, IfSome};
 ghost use Rattle.gtpv2_msg.specs.Header as grammar;
 ghost use Rattle.gtpv2_msg.specs.Header.{IsRight};
 ghost use Rattle.gtpv2_msg.specs.Refusal.{header_fault};
@@ -95,7 +95,7 @@ pub fn seq_of(octets: &[u8]) -> u32
     }
 }
 
-/// The header of the message at the front of the octets, or the first fault of it (TS 29.274, section 5.1). Takes no
+/// The header of the message at the start of the octets, or the first fault of it (TS 29.274, section 5.1). Takes no
 /// memory.
 pub fn read_header(octets: &[u8]) -> Result<Header, CBad>
     ensures refused { IfErr result (λ bad. header_fault octets.now ≡ Some bad) }

@@ -16,6 +16,6 @@ pub record Spells (octets packet : List ℕ) : Type 0 where
   pub rest : List ℕ
   pub parts : octets ≡ packet ++ rest
 
--- the packet at the front of octets, where they spell one
+-- the packet at the start of octets, where they spell one
 abbrev pub packet_of : List ℕ → List ℕ
 packet_of octets = take (total_length octets) octets

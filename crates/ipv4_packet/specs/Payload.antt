@@ -20,7 +20,7 @@ ports_of packet =
     then Some (be16_at (payload_of packet) 0, be16_at (payload_of packet) 2)
     else None
 
--- The security parameters index, at the front of ESP (protocol 50; RFC 4303, 2) and behind four octets in AH (51;
+-- The security parameters index, at the start of ESP (protocol 50; RFC 4303, 2) and behind four octets in AH (51;
 -- RFC 4302, 2).
 abbrev pub spi_of : List ℕ → Option ℕ
 spi_of packet =

@@ -47,7 +47,7 @@ impl<'a> Model for Ip4<'a> {
 }
 
 impl<'a> Ip4<'a> {
-    /// The packet at the front of octets. What follows its total length is no part of it.
+    /// The packet at the start of octets. What follows its total length is no part of it.
     #[inline(always)]
     pub fn read(bytes: &'a [u8]) -> Result<Ip4<'a>, IpBad>
         // What is read is spelled so, and what is spelled so is read.

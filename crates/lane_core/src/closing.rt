@@ -1,7 +1,6 @@
 //! How a lane ends.
 ghost use Rattle.std.specs.Prelude.{◌≡◌, ◌≤◌, ◌+◌, ◌++◌, true, length, vec_len, vec_capacity, IfOk, IfErr, OnOk};
-ghost use Rattle.std.specs.Arc.{arc_value};
-ghost use Rattle.crossbeam_queue.specs.Passes.{view, IsPassOf, ruled_capacity};
+ghost use Rattle.crossbeam_queue.specs.Passes.{view, IsPassOf};
 ghost use Rattle.lane_core.specs.Sequence.{Lawful};
 ghost use Rattle.lane_core.specs.Ends.{sender_lane, receiver_lane, sent, taken};
 

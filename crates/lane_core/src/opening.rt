@@ -1,5 +1,5 @@
 //! How a lane is made.
-ghost use Rattle.std.specs.Prelude.{◌≡◌, ◌≤◌, [], IfOk};
+ghost use Rattle.std.specs.Prelude.{◌≡◌, ◌≤◌, IfOk};
 ghost use Rattle.lane_core.specs.Ends.{sender_lane, receiver_lane, AreNewEnds};
 
 use crate::sequence::{Line, Parted};

@@ -1,5 +1,5 @@
 //! A lane between two threads.
-ghost use Rattle.std.specs.Prelude.{◌≡◌, ◌≤◌, ◌<◌, [], ◌∷◌, ◌++◌, ◌^◌, length};
+ghost use Rattle.std.specs.Prelude.{◌≡◌, ◌<◌, [], ◌∷◌, ◌++◌, ◌^◌, length};
 ghost use Rattle.lane_core.specs.Ends.{sender_lane, receiver_lane, sent};
 
 use crate::{Carried, Full, Receiver, Sender, close, lane};

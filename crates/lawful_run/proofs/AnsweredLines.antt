@@ -37,32 +37,32 @@ answered_each n before (packet slot p ∷ made) =
     ((refl, refl), answered_each (n + 1) (behind_line before (packet slot p)) made)
 
 -- and is answered in sequence
-pub answered_in_sequence : (n : ℕ) (start : Histories) (front : List LineTold) (before : Histories) (made : List Meaning)
-    → ((slot : ℕ) → IsCounted start slot front (before slot))
-    → EachFrom (LineInSequence start) front (lines_told made (entries_from n before made))
-answered_in_sequence n start front before [] counts = tt
-answered_in_sequence n start front before (note text ∷ made) counts = (
+pub answered_in_sequence : (n : ℕ) (start : Histories) (prefix : List LineTold) (before : Histories) (made : List Meaning)
+    → ((slot : ℕ) → IsCounted start slot prefix (before slot))
+    → EachFrom (LineInSequence start) prefix (lines_told made (entries_from n before made))
+answered_in_sequence n start prefix before [] counts = tt
+answered_in_sequence n start prefix before (note text ∷ made) counts = (
   tt,
   answered_in_sequence (n + 1) start _ (behind_line before (note text)) made
-      (λ slot. counted_on start slot front (before slot) (note text) (entry_after n before (note text)) refl
+      (λ slot. counted_on start slot prefix (before slot) (note text) (entry_after n before (note text)) refl
       (counts slot)),
 )
-answered_in_sequence n start front before (move own slice text ∷ made) counts = (
+answered_in_sequence n start prefix before (move own slice text ∷ made) counts = (
   tt,
   answered_in_sequence (n + 1) start _ (behind_line before (move own slice text)) made
-      (λ slot. counted_on start slot front (before slot) (move own slice text)
+      (λ slot. counted_on start slot prefix (before slot) (move own slice text)
       (entry_after n before (move own slice text)) refl (counts slot)),
 )
-answered_in_sequence n start front before (command own c ∷ made) counts = (
+answered_in_sequence n start prefix before (command own c ∷ made) counts = (
   tt,
   answered_in_sequence (n + 1) start _ (behind_line before (command own c)) made
-      (λ slot. counted_on start slot front (before slot) (command own c)
+      (λ slot. counted_on start slot prefix (before slot) (command own c)
       (entry_after n before (command own c)) refl (counts slot)),
 )
-answered_in_sequence n start front before (packet own p ∷ made) counts = (
+answered_in_sequence n start prefix before (packet own p ∷ made) counts = (
   record { commands = counts own; place = refl; parked = refl },
   answered_in_sequence (n + 1) start _ (behind_line before (packet own p)) made
-      (λ slot. counted_on start slot front (before slot) (packet own p) (entry_after n before (packet own p)) refl
+      (λ slot. counted_on start slot prefix (before slot) (packet own p) (entry_after n before (packet own p)) refl
       (counts slot)),
 )
 

@@ -1,5 +1,5 @@
 -- A kept answer is short, where requests ask of few bearers.
-use Rattle.std.proofs.Common.{◌≡◌, ℕ, ◌+◌, ◌*◌, ◌<◌, ◌≤◌, ◌^◌, ◌||◌, Bool, true, false, Option, Some, None, List, [], ◌∷◌, ◌++◌, length, fold, map, eqb, arith, length-append}
+use Rattle.std.proofs.Common.{◌≡◌, ℕ, ◌+◌, ◌*◌, ◌<◌, ◌≤◌, ◌^◌, ◌||◌, Bool, true, false, Option, Some, None, List, [], ◌∷◌, ◌++◌, length, fold, eqb, arith, length-append}
 use Rattle.std.specs.Prelude.{IfSome}
 use Rattle.std.specs.List.{AllByRecursion, cons_option, filter_map, list_any, IsDistinct}
 use Rattle.std.specs.Option.{option_map, option_or}
@@ -18,7 +18,7 @@ use Rattle.bearer_state.specs.declared.ask.Ask.{Ask}
 use Rattle.bearer_state.specs.declared.bearer.Bearer.{Bearer}
 use Rattle.bearer_state.specs.declared.kept.Kept.{Kept}
 use Rattle.control_steps.specs.Command.{request_of}
-use Rattle.control_steps.specs.Messages.{accepted, ask_accepted, cause_alone, cause_element, create_session_response, modify_bearer_response}
+use Rattle.control_steps.specs.Messages.{accepted, ask_accepted, cause_alone, create_session_response, modify_bearer_response}
 use Rattle.control_steps.specs.Row.{Row, repeated, pdn_refused, class_refused, created, no_session, no_bearer, modified, released, deleted, asked, refiltered, dropped, rerated, row_of}
 use Rattle.control_steps.specs.Table.{cause_answer, kept_answer, last_answer, written, teid_of_mme}
 use Rattle.control_steps.specs.declared.cause.TheConstants.{REQUEST_ACCEPTED, CONTEXT_NOT_FOUND, PREFERRED_PDN_TYPE_NOT_SUPPORTED, REQUEST_REJECTED}

@@ -91,9 +91,9 @@ pub merged-places : (done next : ℕ) (commands : List CommandKind) (packets : L
 merged-places done next commands [] rises within = places-alone done commands
 merged-places done next commands (p ∷ packets) rises within =
     let few : p.commands - done ≤ length commands = omega (arith, rises.0, within.0) in
-    let front = length-take (p.commands - done) commands few in
+    let prefix = length-take (p.commands - done) commands few in
     let rest = length-drop (p.commands - done) commands few in
-    let here : done + length (take (p.commands - done) commands) ≡ p.commands = omega (arith, front, rises.0) in
+    let here : done + length (take (p.commands - done) commands) ≡ p.commands = omega (arith, prefix, rises.0) in
     let most : done + length commands ≡ p.commands + length (drop (p.commands - done) commands) =
     omega (arith, rest, rises.0) in
     places-behind done (take (p.commands - done) commands) _
@@ -121,20 +121,20 @@ fewer_before_move slot other [] = omega arith
 fewer_before_move slot other (now ∷ later) =
     fewer_with (moves other now) slot now later (before_next_move other later) (fewer_before_move slot other later)
 
-pub met_at_most : (setup : Setup) (start : Histories) (slot : ℕ) (front later : List LineTold) (now : LineTold) (count : ℕ)
-    → MayMeet setup start slot front later count
-    → count ≤ count_before start slot + command_count slot (front ++ now ∷ later)
-met_at_most solo start slot front later now count meets =
-    let parts : command_count slot (front ++ now ∷ later) ≡ command_count slot front
+pub met_at_most : (setup : Setup) (start : Histories) (slot : ℕ) (prefix later : List LineTold) (now : LineTold) (count : ℕ)
+    → MayMeet setup start slot prefix later count
+    → count ≤ count_before start slot + command_count slot (prefix ++ now ∷ later)
+met_at_most solo start slot prefix later now count meets =
+    let parts : command_count slot (prefix ++ now ∷ later) ≡ command_count slot prefix
     + command_count slot (now ∷ later) =
     simp (filter_map-append, length-append) in
     omega (arith, meets, parts)
-met_at_most (sliced slices room lane) start slot front later now count meets =
+met_at_most (sliced slices room lane) start slot prefix later now count meets =
     let fewer = fewer_before_move slot slot later in
-    let parts : command_count slot (front ++ now ∷ later) ≡ command_count slot front
+    let parts : command_count slot (prefix ++ now ∷ later) ≡ command_count slot prefix
     + command_count slot (now ∷ later) =
     simp (filter_map-append, length-append) in
-    let some : command_count slot (front ++ before_next_move slot later) ≡ command_count slot front
+    let some : command_count slot (prefix ++ before_next_move slot later) ≡ command_count slot prefix
     + command_count slot (before_next_move slot later) =
     simp (filter_map-append, length-append) in
     let own : command_count slot ((now ∷ []) ++ later) ≡ command_count slot (now ∷ []) + command_count slot later =
@@ -146,42 +146,42 @@ above_first : (test : Bool) (count most : ℕ) (counts : List ℕ) → (test ≡
 above_first true count most counts own none = (own refl, none)
 above_first false count most counts own none = none
 
-by_entry : (slot : ℕ) (setup : Setup) (start : Histories) (front : List LineTold) (now : Meaning) (entry : LineEntry)
+by_entry : (slot : ℕ) (setup : Setup) (start : Histories) (prefix : List LineTold) (now : Meaning) (entry : LineEntry)
     (later : List LineTold)
-    (counts : List ℕ) → MeetsAs setup start front entry later
-    → NoneAbove (count_before start slot + command_count slot (front ++ record { meaning = now; entry = entry }
+    (counts : List ℕ) → MeetsAs setup start prefix entry later
+    → NoneAbove (count_before start slot + command_count slot (prefix ++ record { meaning = now; entry = entry }
     ∷ later)) counts
-    → NoneAbove (count_before start slot + command_count slot (front ++ record { meaning = now; entry = entry }
+    → NoneAbove (count_before start slot + command_count slot (prefix ++ record { meaning = now; entry = entry }
     ∷ later))
     (cons_option (commands_told slot entry) counts)
-by_entry slot setup start front now (line.N noted) later counts meets none = none
-by_entry slot setup start front now (line.C answered) later counts meets none = none
-by_entry slot setup start front now (line.P judged) later counts meets none =
+by_entry slot setup start prefix now (line.N noted) later counts meets none = none
+by_entry slot setup start prefix now (line.C answered) later counts meets none = none
+by_entry slot setup start prefix now (line.P judged) later counts meets none =
     above_first (judged.slot == slot) judged.commands
-    (count_before start slot + command_count slot (front ++ record { meaning = now; entry = line.P judged }
+    (count_before start slot + command_count slot (prefix ++ record { meaning = now; entry = line.P judged }
     ∷ later)) counts
     (λ own. subst (λ s. judged.commands ≤ count_before start s
-    + command_count s (front ++ record { meaning = now; entry = line.P judged } ∷ later))
+    + command_count s (prefix ++ record { meaning = now; entry = line.P judged } ∷ later))
     (eqb-true judged.slot slot own)
-    (met_at_most setup start judged.slot front later (record { meaning = now; entry = line.P judged })
+    (met_at_most setup start judged.slot prefix later (record { meaning = now; entry = line.P judged })
     judged.commands meets)) none
-by_entry slot setup start front now (line.F refused) later counts meets none = none
+by_entry slot setup start prefix now (line.F refused) later counts meets none = none
 
-none_above : (slot n : ℕ) (setup : Setup) (start : Histories) (front : List LineTold) (made : List Meaning)
+none_above : (slot n : ℕ) (setup : Setup) (start : Histories) (prefix : List LineTold) (made : List Meaning)
     (entries : List LineEntry)
-    → AnswersAll n made entries → EachFrom (MeetsBounds setup start) front (lines_told made entries)
-    → NoneAbove (count_before start slot + command_count slot (front ++ lines_told made entries))
+    → AnswersAll n made entries → EachFrom (MeetsBounds setup start) prefix (lines_told made entries)
+    → NoneAbove (count_before start slot + command_count slot (prefix ++ lines_told made entries))
     (filter_map (commands_told slot) entries)
-none_above slot n setup start front [] [] answers each = tt
-none_above slot n setup start front [] (entry ∷ entries) answers each = absurd answers
-none_above slot n setup start front (now ∷ made) [] answers each = absurd answers
-none_above slot n setup start front (now ∷ made) (entry ∷ entries) answers each =
+none_above slot n setup start prefix [] [] answers each = tt
+none_above slot n setup start prefix [] (entry ∷ entries) answers each = absurd answers
+none_above slot n setup start prefix (now ∷ made) [] answers each = absurd answers
+none_above slot n setup start prefix (now ∷ made) (entry ∷ entries) answers each =
     let told : LineTold = record { meaning = now; entry = entry } in
     let rest = subst (λ lines. NoneAbove (count_before start slot + command_count slot lines)
     (filter_map (commands_told slot) entries))
-    (append_assoc front (told ∷ []) (lines_told made entries))
-    (none_above slot (n + 1) setup start (front ++ told ∷ []) made entries answers.1 each.1) in
-    by_entry slot setup start front now entry (lines_told made entries)
+    (append_assoc prefix (told ∷ []) (lines_told made entries))
+    (none_above slot (n + 1) setup start (prefix ++ told ∷ []) made entries answers.1 each.1) in
+    by_entry slot setup start prefix now entry (lines_told made entries)
     (filter_map (commands_told slot) entries) each.0 rest
 
 pub counts_within : (setup : Setup) (slots first : ℕ) (before : Histories) (made : List Meaning) (told : EpochReport)

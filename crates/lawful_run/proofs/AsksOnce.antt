@@ -1,8 +1,8 @@
 -- A Modify Bearer Request, as it is read, asks of each bearer once.
-use Rattle.std.proofs.Common.{◌≡◌, ℕ, ◌==◌, ◌||◌, nat_lt, Bool, true, false, cond, if◌then◌else◌, Option, Some, None, List, [], ◌∷◌, codes, eqb, refl, sym, ◌∙◌, eq-eqb}
-use Rattle.std.specs.Prelude.{IfSome, nat_eq, unwrap_or}
+use Rattle.std.proofs.Common.{◌≡◌, ℕ, ◌==◌, ◌||◌, nat_lt, Bool, true, false, if◌then◌else◌, Option, Some, None, List, [], ◌∷◌, eqb, refl, sym, ◌∙◌, eq-eqb}
+use Rattle.std.specs.Prelude.{IfSome}
 use Rattle.std.specs.List.{AllByRecursion, IsDistinct}
-use Rattle.std.specs.Option.{option_and_then, option_map}
+use Rattle.std.specs.Option.{option_and_then}
 use Rattle.std.proofs.lemmas.Bool.{false≢true, ne_eqb}
 use Rattle.bearer_state.specs.declared.ask.Ask.{Ask}
 use Rattle.control_steps.specs.declared.command.CommandKind.{CommandKind}
@@ -29,7 +29,7 @@ use Rattle.tft_codec.specs.declared.tft.Tft.{Tft}
 use Rattle.trace_lines.specs.Line.{Line}
 use Rattle.trace_lines.specs.Kind.{LineKind}
 use Rattle.trace_lines.specs.Kind as kind
-use Rattle.demux.specs.Asked.{Asked, Whom, Wish, command, packet, move, noted, note, admission, of}
+use Rattle.demux.specs.Asked.{Asked, Wish, command, packet, move, noted, note, admission, of}
 use Rattle.demux.specs.Ends.{addressee, bearer_end, control_slot}
 use Rattle.demux.specs.Instructions.{templated, templated_where}
 use Rattle.demux.specs.Line.{asked, kind_asks}
@@ -37,7 +37,7 @@ use Rattle.demux.specs.Message.{message_in}
 use Rattle.demux.specs.Mme.{asked_where, create_asked, create_or_unexpected, for_slot, message_asked, mme_asked, no_context_note, or_unexpected, session_asked, session_or_unexpected}
 use Rattle.demux.specs.Requests.{bearer_answer, cause_in, context_in, creation, each_ask, first_asks, imsi_in, mme_in, modification, assigned, pdn_in, rates_in, session_command, without_ebi}
 use Rattle.demux.specs.Resolved.{admitting, decided, found_in, resolved, whose_in, wished_by}
-use Rattle.demux.specs.Trace.{Meaning, book_of, decisions, meaning, meant}
+use Rattle.demux.specs.Trace.{book_of, decisions, meant}
 use Rattle.demux.specs.Tunnel.{carried_where, delivered_to, kind_asked, lent, packet_asked, packet_where, tunnel_asked, tunnel_where, tunnelled, tunnelled_to}
 use Rattle.demux.specs.declared.decision.Decision.{Decision}
 use Rattle.demux.specs.declared.decision.Decision.TheVariants.{Command, Move, Note, Packet}

@@ -20,17 +20,17 @@ is_moved-behind slot [] lines moved = moved
 is_moved-behind slot (now ∷ before) lines moved =
     ap (λ rest. moves slot now || rest) (is_moved-behind slot before lines moved) ∙ or_true (moves slot now)
 
-is_moved-or : (test : Bool) (front back : Bool) → (front ≡ true → back ≡ true) → (test || front) ≡ true
+is_moved-or : (test : Bool) (prefix back : Bool) → (prefix ≡ true → back ≡ true) → (test || prefix) ≡ true
     → (test || back) ≡ true
-is_moved-or true front back more moved = refl
-is_moved-or false front back more moved = more moved
+is_moved-or true prefix back more moved = refl
+is_moved-or false prefix back more moved = more moved
 
-pub is_moved-front : (slot : ℕ) (lines more : List LineTold) → is_moved slot lines ≡ true
+pub is_moved-prefix : (slot : ℕ) (lines more : List LineTold) → is_moved slot lines ≡ true
     → is_moved slot (lines ++ more) ≡ true
-is_moved-front slot [] more moved = absurd (true≢false (sym moved))
-is_moved-front slot (now ∷ lines) more moved =
+is_moved-prefix slot [] more moved = absurd (true≢false (sym moved))
+is_moved-prefix slot (now ∷ lines) more moved =
     is_moved-or (moves slot now) (is_moved slot lines) (is_moved slot (lines ++ more))
-    (is_moved-front slot lines more) moved
+    (is_moved-prefix slot lines more) moved
 
 pub before_last_move-behind : (slot : ℕ) (before lines : List LineTold) → is_moved slot lines ≡ true
     → before_last_move slot (before ++ lines) ≡ before ++ before_last_move slot lines
@@ -59,21 +59,21 @@ all_with P None floor floors here rest = rest
 all_with P (Some x) floor floors here rest = (here, rest)
 
 -- commands behind a move of their slot wait for all packets before it
-pub late_floors : (slot packets : ℕ) (front middle later : List LineTold) → is_moved slot middle ≡ true
-    → AllByRecursion (λ floor. packets + length (packets_accepted slot front) ≤ floor)
-    (command_floors slot packets (front ++ middle) later)
-late_floors slot packets front middle [] moved = tt
-late_floors slot packets front middle (now ∷ later) moved =
-    let parts = packets_accepted-append slot front (before_last_move slot middle) in
-    let before = ap (λ lines. length (packets_accepted slot lines)) (before_last_move-behind slot front middle moved) in
-    let here : packets + length (packets_accepted slot front) ≤ command_floor slot packets (front ++ middle) =
+pub late_floors : (slot packets : ℕ) (prefix middle later : List LineTold) → is_moved slot middle ≡ true
+    → AllByRecursion (λ floor. packets + length (packets_accepted slot prefix) ≤ floor)
+    (command_floors slot packets (prefix ++ middle) later)
+late_floors slot packets prefix middle [] moved = tt
+late_floors slot packets prefix middle (now ∷ later) moved =
+    let parts = packets_accepted-append slot prefix (before_last_move slot middle) in
+    let before = ap (λ lines. length (packets_accepted slot lines)) (before_last_move-behind slot prefix middle moved) in
+    let here : packets + length (packets_accepted slot prefix) ≤ command_floor slot packets (prefix ++ middle) =
     omega (arith, parts, before) in
-    let rest = late_floors slot packets front (middle ++ now ∷ []) later (is_moved-front slot middle (now ∷ []) moved) in
-    all_with (λ floor. packets + length (packets_accepted slot front) ≤ floor) (accepted_command slot now)
-    (command_floor slot packets (front ++ middle)) (command_floors slot packets ((front ++ middle) ++ now ∷ []) later)
+    let rest = late_floors slot packets prefix (middle ++ now ∷ []) later (is_moved-prefix slot middle (now ∷ []) moved) in
+    all_with (λ floor. packets + length (packets_accepted slot prefix) ≤ floor) (accepted_command slot now)
+    (command_floor slot packets (prefix ++ middle)) (command_floors slot packets ((prefix ++ middle) ++ now ∷ []) later)
     here
-    (subst (λ lines. AllByRecursion (λ floor. packets + length (packets_accepted slot front) ≤ floor)
-    (command_floors slot packets lines later)) (sym (append_assoc front middle (now ∷ []))) rest)
+    (subst (λ lines. AllByRecursion (λ floor. packets + length (packets_accepted slot prefix) ≤ floor)
+    (command_floors slot packets lines later)) (sym (append_assoc prefix middle (now ∷ []))) rest)
 
 -- floors of lines one behind the other
 pub cons_option-append : {X : Type 0} (own : Option X) (xs ys : List X)
@@ -89,7 +89,7 @@ command_floors-append slot packets before [] more =
 command_floors-append slot packets before (now ∷ lines) more =
     let own = floor_for (accepted_command slot now) (command_floor slot packets before) in
     ap (cons_option own) (command_floors-append slot packets (before ++ now ∷ []) lines more
-    ∙ ap (λ front. command_floors slot packets (before ++ now ∷ []) lines ++ command_floors slot packets front more)
+    ∙ ap (λ prefix. command_floors slot packets (before ++ now ∷ []) lines ++ command_floors slot packets prefix more)
     (append_assoc before (now ∷ []) lines))
     ∙ cons_option-append own (command_floors slot packets (before ++ now ∷ []) lines)
     (command_floors slot packets (before ++ now ∷ lines) more)
@@ -141,76 +141,76 @@ move_alone slot now moved =
     none_either (is_refused now.entry) (command_for slot now.meaning) (no_command slot now.meaning moved)
 
 -- A packet with a number among those accepted so far, whose commands wait for no later one, has no command behind its
--- slot's next move before it. Lines before are a front, whose packets count, and others behind it.
-ceiling_by : (test : Bool) (slot packets number n : ℕ) (front middle : List LineTold) (now : LineTold)
+-- slot's next move before it. Lines before are a prefix, whose packets count, and others behind it.
+ceiling_by : (test : Bool) (slot packets number n : ℕ) (prefix middle : List LineTold) (now : LineTold)
     (later : List LineTold)
     → moves slot now ≡ test
-    → n ≤ length (command_floors slot packets [] ((front ++ middle) ++ now ∷ later))
+    → n ≤ length (command_floors slot packets [] ((prefix ++ middle) ++ now ∷ later))
     → AllByRecursion (λ floor. floor ≤ number)
-    (take n (command_floors slot packets [] ((front ++ middle) ++ now ∷ later)))
-    → number < packets + length (packets_accepted slot front)
-    → n ≤ command_count slot (((front ++ middle) ++ now ∷ []) ++ before_next_move slot later)
-    → n ≤ command_count slot ((front ++ middle) ++ cond test [] (now ∷ before_next_move slot later))
-ceiling_by false slot packets number n front middle now later is within some below bound =
+    (take n (command_floors slot packets [] ((prefix ++ middle) ++ now ∷ later)))
+    → number < packets + length (packets_accepted slot prefix)
+    → n ≤ command_count slot (((prefix ++ middle) ++ now ∷ []) ++ before_next_move slot later)
+    → n ≤ command_count slot ((prefix ++ middle) ++ cond test [] (now ∷ before_next_move slot later))
+ceiling_by false slot packets number n prefix middle now later is within some below bound =
     subst (λ lines. n ≤ command_count slot lines)
-    (append_assoc (front ++ middle) (now ∷ []) (before_next_move slot later)) bound
-ceiling_by true slot packets number n front middle now later is within some below others =
-    let early = command_floors slot packets [] (front ++ middle) in
-    let late = command_floors slot packets (front ++ middle) (now ∷ later) in
-    let parts = command_floors-append slot packets [] (front ++ middle) (now ∷ later) in
-    let only : late ≡ command_floors slot packets ((front ++ middle) ++ now ∷ []) later =
-    ap (λ own. cons_option (floor_for own (command_floor slot packets (front ++ middle)))
-    (command_floors slot packets ((front ++ middle) ++ now ∷ []) later)) (move_alone slot now is) in
+    (append_assoc (prefix ++ middle) (now ∷ []) (before_next_move slot later)) bound
+ceiling_by true slot packets number n prefix middle now later is within some below others =
+    let early = command_floors slot packets [] (prefix ++ middle) in
+    let late = command_floors slot packets (prefix ++ middle) (now ∷ later) in
+    let parts = command_floors-append slot packets [] (prefix ++ middle) (now ∷ later) in
+    let only : late ≡ command_floors slot packets ((prefix ++ middle) ++ now ∷ []) later =
+    ap (λ own. cons_option (floor_for own (command_floor slot packets (prefix ++ middle)))
+    (command_floors slot packets ((prefix ++ middle) ++ now ∷ []) later)) (move_alone slot now is) in
     let moved : is_moved slot (middle ++ now ∷ []) ≡ true =
     is_moved-behind slot middle (now ∷ []) (ap (λ test. test || false) is) in
-    let above = subst (AllByRecursion (λ floor. packets + length (packets_accepted slot front) ≤ floor))
-    (ap (λ lines. command_floors slot packets lines later) (sym (append_assoc front middle (now ∷ []))) ∙ sym only)
-    (late_floors slot packets front (middle ++ now ∷ []) later moved) in
-    let bound = none_of_late early late n number (packets + length (packets_accepted slot front))
+    let above = subst (AllByRecursion (λ floor. packets + length (packets_accepted slot prefix) ≤ floor))
+    (ap (λ lines. command_floors slot packets lines later) (sym (append_assoc prefix middle (now ∷ []))) ∙ sym only)
+    (late_floors slot packets prefix (middle ++ now ∷ []) later moved) in
+    let bound = none_of_late early late n number (packets + length (packets_accepted slot prefix))
     (subst (λ floors. n ≤ length floors) parts within)
     (subst (λ floors. AllByRecursion (λ floor. floor ≤ number) (take n floors)) parts some) above below in
-    let count = length-command_floors slot packets [] (front ++ middle) in
-    let ends = ap (command_count slot) (append-nil (front ++ middle)) in
+    let count = length-command_floors slot packets [] (prefix ++ middle) in
+    let ends = ap (command_count slot) (append-nil (prefix ++ middle)) in
     omega (arith, bound, count, ends)
 
-ceiling_from : (slot packets number n : ℕ) (front middle later : List LineTold)
-    → n ≤ length (command_floors slot packets [] ((front ++ middle) ++ later))
-    → AllByRecursion (λ floor. floor ≤ number) (take n (command_floors slot packets [] ((front ++ middle) ++ later)))
-    → number < packets + length (packets_accepted slot front)
-    → n ≤ command_count slot ((front ++ middle) ++ before_next_move slot later)
-ceiling_from slot packets number n front middle [] within some below =
-    let count = length-command_floors slot packets [] ((front ++ middle) ++ []) in omega (arith, within, count)
-ceiling_from slot packets number n front middle (now ∷ later) within some below =
-    let regroup : (front ++ middle) ++ now ∷ later ≡ (front ++ (middle ++ now ∷ [])) ++ later =
-    sym (append_assoc (front ++ middle) (now ∷ []) later)
-    ∙ ap (λ lines. lines ++ later) (append_assoc front middle (now ∷ [])) in
-    let rest = ceiling_from slot packets number n front (middle ++ now ∷ []) later
+ceiling_from : (slot packets number n : ℕ) (prefix middle later : List LineTold)
+    → n ≤ length (command_floors slot packets [] ((prefix ++ middle) ++ later))
+    → AllByRecursion (λ floor. floor ≤ number) (take n (command_floors slot packets [] ((prefix ++ middle) ++ later)))
+    → number < packets + length (packets_accepted slot prefix)
+    → n ≤ command_count slot ((prefix ++ middle) ++ before_next_move slot later)
+ceiling_from slot packets number n prefix middle [] within some below =
+    let count = length-command_floors slot packets [] ((prefix ++ middle) ++ []) in omega (arith, within, count)
+ceiling_from slot packets number n prefix middle (now ∷ later) within some below =
+    let regroup : (prefix ++ middle) ++ now ∷ later ≡ (prefix ++ (middle ++ now ∷ [])) ++ later =
+    sym (append_assoc (prefix ++ middle) (now ∷ []) later)
+    ∙ ap (λ lines. lines ++ later) (append_assoc prefix middle (now ∷ [])) in
+    let rest = ceiling_from slot packets number n prefix (middle ++ now ∷ []) later
     (subst (λ lines. n ≤ length (command_floors slot packets [] lines)) regroup within)
     (subst (λ lines. AllByRecursion (λ floor. floor ≤ number) (take n (command_floors slot packets [] lines))) regroup
     some) below in
-    let bound : n ≤ command_count slot (((front ++ middle) ++ now ∷ []) ++ before_next_move slot later) =
+    let bound : n ≤ command_count slot (((prefix ++ middle) ++ now ∷ []) ++ before_next_move slot later) =
     subst (λ lines. n ≤ command_count slot (lines ++ before_next_move slot later))
-    (sym (append_assoc front middle (now ∷ []))) rest in
-    ceiling_by (moves slot now) slot packets number n front middle now later refl within some below bound
+    (sym (append_assoc prefix middle (now ∷ []))) rest in
+    ceiling_by (moves slot now) slot packets number n prefix middle now later refl within some below bound
 
 -- at a packet's line
-pub ceiling_holds : (slot packets number n : ℕ) (front : List LineTold) (now : LineTold) (later : List LineTold)
+pub ceiling_holds : (slot packets number n : ℕ) (prefix : List LineTold) (now : LineTold) (later : List LineTold)
     → accepted_command slot now ≡ None
-    → number < packets + length (packets_accepted slot (front ++ now ∷ []))
-    → n ≤ length (command_floors slot packets [] (front ++ now ∷ later))
-    → AllByRecursion (λ floor. floor ≤ number) (take n (command_floors slot packets [] (front ++ now ∷ later)))
-    → n ≤ command_count slot (front ++ before_next_move slot later)
-ceiling_holds slot packets number n front now later none below within some =
-    let regroup : front ++ now ∷ later ≡ ((front ++ now ∷ []) ++ []) ++ later =
-    sym (append_assoc front (now ∷ []) later)
-    ∙ ap (λ lines. lines ++ later) (sym (append-nil (front ++ now ∷ []))) in
-    let bound = ceiling_from slot packets number n (front ++ now ∷ []) [] later
+    → number < packets + length (packets_accepted slot (prefix ++ now ∷ []))
+    → n ≤ length (command_floors slot packets [] (prefix ++ now ∷ later))
+    → AllByRecursion (λ floor. floor ≤ number) (take n (command_floors slot packets [] (prefix ++ now ∷ later)))
+    → n ≤ command_count slot (prefix ++ before_next_move slot later)
+ceiling_holds slot packets number n prefix now later none below within some =
+    let regroup : prefix ++ now ∷ later ≡ ((prefix ++ now ∷ []) ++ []) ++ later =
+    sym (append_assoc prefix (now ∷ []) later)
+    ∙ ap (λ lines. lines ++ later) (sym (append-nil (prefix ++ now ∷ []))) in
+    let bound = ceiling_from slot packets number n (prefix ++ now ∷ []) [] later
     (subst (λ lines. n ≤ length (command_floors slot packets [] lines)) regroup within)
     (subst (λ lines. AllByRecursion (λ floor. floor ≤ number) (take n (command_floors slot packets [] lines))) regroup
     some) below in
-    let whole = command_count-append slot ((front ++ now ∷ []) ++ []) (before_next_move slot later) in
-    let front_now = ap (command_count slot) (append-nil (front ++ now ∷ [])) in
-    let two = command_count-append slot front (now ∷ []) in
+    let whole = command_count-append slot ((prefix ++ now ∷ []) ++ []) (before_next_move slot later) in
+    let prefix_now = ap (command_count slot) (append-nil (prefix ++ now ∷ [])) in
+    let two = command_count-append slot prefix (now ∷ []) in
     let alone : command_count slot (now ∷ []) ≡ 0 = ap (λ own. length (cons_option own [])) none in
-    let parts = command_count-append slot front (before_next_move slot later) in
-    omega (arith, bound, whole, front_now, two, alone, parts)
+    let parts = command_count-append slot prefix (before_next_move slot later) in
+    omega (arith, bound, whole, prefix_now, two, alone, parts)

@@ -3,7 +3,7 @@ use Rattle.std.proofs.Common.{◌≡◌, ℕ, ◌+◌, ◌-◌, ◌<◌, ◌≤�
 use Rattle.std.specs.List.{AllByRecursion}
 use Rattle.std.proofs.lemmas.Bool.{leb-false}
 use Rattle.std.proofs.lemmas.List.Sums.{count_by-le-length, sum_by-append}
-use Rattle.charging_book.specs.Happenings.{Happening, Story, closed, forwarded, moments_at, open_at, rows_at, rows_by, rows_from, rows_of, started, story_of, story_step, with_item}
+use Rattle.charging_book.specs.Happenings.{Happening, Story, closed, forwarded, open_at, rows_at, rows_by, rows_from, rows_of, started, story_of, story_step, with_item}
 use Rattle.charging_book.specs.Pieces.{Finished, Forwarded, Item, down_octets, down_packets, finished, finished_from, finishes, first_at, is_full, last_piece, mark, packet, piece_after, row_of, up_octets, up_packets}
 use Rattle.charging_book.specs.Rows.{Charged}
 use Rattle.charging_book.specs.declared.records.Why.TheVariants.{Volume}

@@ -37,9 +37,9 @@ packets-command before c = simp (filter_map-append, append-nil)
 abbrev pub some_count : {X : Type 0} → Option X → ℕ
 some_count x = length (cons_option x [])
 
-pub command_count-push : (slot : ℕ) (front : List LineTold) (now : LineTold)
-    → command_count slot (front ++ now ∷ []) ≡ command_count slot front + some_count (accepted_command slot now)
-command_count-push slot front now = simp (filter_map-append, length-append)
+pub command_count-push : (slot : ℕ) (prefix : List LineTold) (now : LineTold)
+    → command_count slot (prefix ++ now ∷ []) ≡ command_count slot prefix + some_count (accepted_command slot now)
+command_count-push slot prefix now = simp (filter_map-append, length-append)
 
 -- the commands of a slot behind a line are those before it and its own
 with_command : (test : Bool) (events : List Event) (c : CommandKind)
@@ -64,15 +64,15 @@ commands-line slot events (packet own p) =
 
 -- the count at a line, where the line isn't refused
 abbrev pub IsCounted : Histories → ℕ → List LineTold → List Event → Type 0
-IsCounted start slot front events = length (commands_of events) ≡ count_in_sequence start slot front
+IsCounted start slot prefix events = length (commands_of events) ≡ count_in_sequence start slot prefix
 
-pub counted_on : (start : Histories) (slot : ℕ) (front : List LineTold) (events : List Event) (made : Meaning)
+pub counted_on : (start : Histories) (slot : ℕ) (prefix : List LineTold) (events : List Event) (made : Meaning)
     (entry : LineEntry)
     → accepted_command slot (record { meaning = made; entry = entry }) ≡ command_for slot made
-    → IsCounted start slot front events
-    → IsCounted start slot (front ++ record { meaning = made; entry = entry } ∷ []) (with_line slot events made)
-counted_on start slot front events made entry taken counts =
-    let more = command_count-push slot front (record { meaning = made; entry = entry }) in
+    → IsCounted start slot prefix events
+    → IsCounted start slot (prefix ++ record { meaning = made; entry = entry } ∷ []) (with_line slot events made)
+counted_on start slot prefix events made entry taken counts =
+    let more = command_count-push slot prefix (record { meaning = made; entry = entry }) in
     let brought = commands-line slot events made in
     let one : some_count (accepted_command slot (record { meaning = made; entry = entry }))
     ≡ some_count (command_for slot made) = ap some_count taken in

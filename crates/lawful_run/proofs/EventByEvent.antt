@@ -19,14 +19,14 @@ pub ordered_length : (done next : ℕ) (commands : List CommandKind) (packets : 
 ordered_length done next commands [] = length-map commands event.Command ∙ (omega arith)
 ordered_length done next commands (p ∷ packets) =
     let k = p.commands - done in
-    let front : length (map event.Command (take k commands)) ≡ length (take k commands) =
+    let prefix : length (map event.Command (take k commands)) ≡ length (take k commands) =
     length-map (take k commands) event.Command in
     let both : length (take k commands) + length (drop k commands) ≡ length commands =
     sym (length-append (take k commands) (drop k commands)) ∙ ap length (take-append-drop k commands) in
     let later = ordered_length p.commands (next + 1) (drop k commands) packets in
     length-append (map event.Command (take k commands))
     (event.Packet (numbered next p.packet) ∷ merged p.commands (next + 1) (drop k commands) packets)
-    ∙ omega (arith, front, both, later)
+    ∙ omega (arith, prefix, both, later)
 
 -- commands add no packets
 no_packets : (commands : List CommandKind) → packets_of (map event.Command commands) ≡ []
@@ -70,21 +70,21 @@ goes_on : (Old New : List Event → Type 0) (before all : List Event) (number do
     → Goes New before all p.commands (drop (p.commands - done) left) packets
 goes_on Old New before all number done left p packets goes is holds =
     let k = p.commands - done in
-    let front : List Event = goes.now ++ map event.Command (take k left) in
+    let prefix : List Event = goes.now ++ map event.Command (take k left) in
     let next : ℕ = length (packets_of (before ++ goes.now)) in
     let same : number ≡ next = is ∙ packets_stay before goes.now (take k left) in
     let e : Event = event.Packet (numbered number p.packet) in
-    let more : length (packets_of (before ++ (front ++ e ∷ []))) ≡ next + 1 =
-    ap (λ (es : List Event). length (packets_of es)) (sym (append_assoc before front (e ∷ [])))
-    ∙ packets-packet (before ++ front) (numbered number p.packet)
+    let more : length (packets_of (before ++ (prefix ++ e ∷ []))) ≡ next + 1 =
+    ap (λ (es : List Event). length (packets_of es)) (sym (append_assoc before prefix (e ∷ [])))
+    ∙ packets-packet (before ++ prefix) (numbered number p.packet)
     ∙ ap (λ n. n + 1) (packets_stay before goes.now (take k left)) in
     let rest : ℕ → List Event = λ n. merged p.commands n (drop k left) packets in
     record {
-      now = front ++ e ∷ [];
+      now = prefix ++ e ∷ [];
       holds = holds;
-      rest = ap (λ n. (front ++ e ∷ []) ++ rest n) more
-          ∙ ap (λ n. (front ++ event.Packet (numbered n p.packet) ∷ []) ++ rest (next + 1)) same
-          ∙ append_assoc front (event.Packet (numbered next p.packet) ∷ []) (rest (next + 1))
+      rest = ap (λ n. (prefix ++ e ∷ []) ++ rest n) more
+          ∙ ap (λ n. (prefix ++ event.Packet (numbered n p.packet) ∷ []) ++ rest (next + 1)) same
+          ∙ append_assoc prefix (event.Packet (numbered next p.packet) ∷ []) (rest (next + 1))
           ∙ append_assoc goes.now (map event.Command (take k left))
           (event.Packet (numbered next p.packet) ∷ rest (next + 1))
           ∙ goes.rest;
@@ -128,16 +128,16 @@ pub command_rises : (Holds : ℕ → List Event → List Event → Type 0) (slot
     → length (before ++ now) + length commands < 2 ^ 40
     → Holds slot before (now ++ map event.Command (commands_lent (take k commands))) → CanGo Holds 1
 command_rises Holds slot before now commands k within few holds =
-    let front : List Event = map event.Command (commands_lent (take k commands)) in
-    let long : length (before ++ (now ++ front)) ≡ length (before ++ now) + k =
-    ap length (sym (append_assoc before now front)) ∙ length-append (before ++ now) front
+    let prefix : List Event = map event.Command (commands_lent (take k commands)) in
+    let long : length (before ++ (now ++ prefix)) ≡ length (before ++ now) + k =
+    ap length (sym (append_assoc before now prefix)) ∙ length-append (before ++ now) prefix
     ∙ ap (λ n. length (before ++ now) + n) (length-map (commands_lent (take k commands)) event.Command
     ∙ length-map (take k commands) (λ (command : Bor CommandKind). command.now)
     ∙ length-take-le k commands (omega (arith, within))) in
     record {
       slot = slot;
       before = before;
-      now = now ++ front;
+      now = now ++ prefix;
       holds = holds;
       few = omega (arith, long, within, few);
     }
@@ -226,14 +226,14 @@ module _ {X : Type 0} (placed : X → Placed) (commands : List (Bor CommandKind)
       let here = at_packet Old done from index x within item goes in
       let k = (placed x).commands - done in
       let left : List CommandKind = drop from (commands_lent commands) in
-      let front : List Event = map event.Command (take k left) in
-      let long : length (before ++ (here.now ++ front)) ≡ length (before ++ here.now) + length (take k left) =
-      ap length (sym (append_assoc before here.now front)) ∙ length-append (before ++ here.now) front
+      let prefix : List Event = map event.Command (take k left) in
+      let long : length (before ++ (here.now ++ prefix)) ≡ length (before ++ here.now) + length (take k left) =
+      ap length (sym (append_assoc before here.now prefix)) ∙ length-append (before ++ here.now) prefix
       ∙ ap (λ n. length (before ++ here.now) + n) (length-map (take k left) event.Command) in
       record {
         slot = slot;
         before = before;
-        now = here.now ++ front;
+        now = here.now ++ prefix;
         holds = part_brought Old (Mid slot before) from to k here.now is part here.holds;
         few = omega (
           arith,

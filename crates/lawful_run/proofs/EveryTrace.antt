@@ -39,7 +39,7 @@ pub with_brought : (slot : ℕ) (events : List Event) (made : List Meaning)
 with_brought slot events [] = append-nil events
 with_brought slot events (now ∷ made) =
     sym (append_assoc events (brings slot events now) (brought slot (with_line slot events now) made))
-    ∙ ap (λ front. front ++ brought slot (with_line slot events now) made) (with_brings slot events now)
+    ∙ ap (λ prefix. prefix ++ brought slot (with_line slot events now) made) (with_brings slot events now)
     ∙ with_brought slot (with_line slot events now) made
 
 -- no line of an epoch is counted before its first

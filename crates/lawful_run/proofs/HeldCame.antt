@@ -1,7 +1,6 @@
 -- A packet that is held came as an event.
-use Rattle.std.proofs.Common.{◌≡◌, Bool, List, [], ◌∷◌, ◌++◌, fold, sym, ap, subst, inl, inr, ◌⊎◌}
+use Rattle.std.proofs.Common.{◌≡◌, Bool, List, [], ◌∷◌, fold, ap, subst, inl, inr, ◌⊎◌}
 use Rattle.std.specs.List.{filter}
-use Rattle.pc_base.specs.declared.effect.Effect.{Effect}
 use Rattle.pc_base.specs.declared.packet.Packet.{Packet}
 use Rattle.pc_base.specs.declared.packet.Verdict.{Verdict}
 use Rattle.bearer_state.specs.Version.{VersionState}

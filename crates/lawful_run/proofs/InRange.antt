@@ -11,7 +11,6 @@ use Rattle.trace_lines.specs.declared.bad.LineBad.TheVariants as why_bad
 use Rattle.trace_lines.proofs.EpochLemmas.{are_epochs}
 use Rattle.trace_lines.proofs.InputRanges.{AreLines, of_octets}
 use Rattle.demux.specs.Ranges.{IsInRange}
-use Rattle.demux.specs.Resolved.{IsNote}
 use Rattle.demux.specs.Trace.{Meaning, command, destination_after, meaning, move, note, packet}
 use Rattle.demux.proofs.NotesPrint.{Prints, behind_space, note_of, word_prints}
 use Rattle.demux.proofs.RangeLemmas.{meaning_in}
@@ -79,9 +78,9 @@ epochs_in slices before (epoch ∷ []) noted are last =
 epochs_in slices before (epoch ∷ next ∷ epochs) noted are last =
     (meant_in slices before epoch are.0, epochs_in slices (before ++ epoch) (next ∷ epochs) noted are.1 last)
 
-front_in : (one other : List Line) → AreLines (one ++ other) → AreLines one
-front_in [] other are = tt
-front_in (line ∷ one) other are = (are.0, front_in one other are.1)
+prefix_in : (one other : List Line) → AreLines (one ++ other) → AreLines one
+prefix_in [] other are = tt
+prefix_in (line ∷ one) other are = (are.0, prefix_in one other are.1)
 
 rest_in : (one other : List Line) → AreLines (one ++ other) → AreLines other
 rest_in [] other are = are
@@ -91,7 +90,7 @@ cut_in : (epochs : List (List Line)) → AreLines (flat_map (λ epoch. epoch) ep
 cut_in [] are = tt
 cut_in (epoch ∷ epochs) are =
     let rest : List Line = flat_map (λ (e : List Line). e) epochs in
-    (front_in epoch rest are, cut_in epochs (rest_in epoch rest are))
+    (prefix_in epoch rest are, cut_in epochs (rest_in epoch rest are))
 
 as_all : (epochs : List (List Meaning)) → EachIn epochs → AllByRecursion (All IsInRange) epochs
 as_all [] are = tt

@@ -154,18 +154,18 @@ packets_first : {X Y : Type 0} (test : Bool) (make : X → Y) (p : X) (packets :
 packets_first true make p packets others same = ap (λ n. suc n) same
 packets_first false make p packets others same = same
 
-pub met_slot : (slot n : ℕ) (start : Histories) (front : List LineTold) (before : List Event) (made : List Meaning)
+pub met_slot : (slot n : ℕ) (start : Histories) (prefix : List LineTold) (before : List Event) (made : List Meaning)
     (entries : List LineEntry)
-    → AnswersAll n made entries → EachFrom (LineMeets start) front (lines_told made entries)
-    → IsCounted start slot front before
+    → AnswersAll n made entries → EachFrom (LineMeets start) prefix (lines_told made entries)
+    → IsCounted start slot prefix before
     → InLineOrder slot before made entries
-met_slot slot n start front before [] [] answers each counts =
+met_slot slot n start prefix before [] [] answers each counts =
     record { counts = refl; commands = refl; packets = refl; rises = tt; events = refl }
-met_slot slot n start front before [] (entry ∷ entries) answers each counts = absurd answers
-met_slot slot n start front before (now ∷ made) [] answers each counts = absurd answers
-met_slot slot n start front before (note text ∷ made) (line.N noted ∷ entries) answers each counts =
+met_slot slot n start prefix before [] (entry ∷ entries) answers each counts = absurd answers
+met_slot slot n start prefix before (now ∷ made) [] answers each counts = absurd answers
+met_slot slot n start prefix before (note text ∷ made) (line.N noted ∷ entries) answers each counts =
     let rest = met_slot slot (n + 1) start _ before made entries answers.1 each.1
-    (counted_on start slot front before (note text) (line.N noted) refl counts) in
+    (counted_on start slot prefix before (note text) (line.N noted) refl counts) in
     record {
       counts = rest.counts;
       commands = rest.commands;
@@ -173,12 +173,12 @@ met_slot slot n start front before (note text ∷ made) (line.N noted ∷ entrie
       rises = rest.rises;
       events = rest.events;
     }
-met_slot slot n start front before (note text ∷ made) (line.C answered ∷ entries) answers each counts = absurd answers.0
-met_slot slot n start front before (note text ∷ made) (line.P judged ∷ entries) answers each counts = absurd answers.0
-met_slot slot n start front before (note text ∷ made) (line.F refused ∷ entries) answers each counts = absurd answers.0
-met_slot slot n start front before (move own slice text ∷ made) (line.N noted ∷ entries) answers each counts =
+met_slot slot n start prefix before (note text ∷ made) (line.C answered ∷ entries) answers each counts = absurd answers.0
+met_slot slot n start prefix before (note text ∷ made) (line.P judged ∷ entries) answers each counts = absurd answers.0
+met_slot slot n start prefix before (note text ∷ made) (line.F refused ∷ entries) answers each counts = absurd answers.0
+met_slot slot n start prefix before (move own slice text ∷ made) (line.N noted ∷ entries) answers each counts =
     let rest = met_slot slot (n + 1) start _ before made entries answers.1 each.1
-    (counted_on start slot front before (move own slice text) (line.N noted) refl counts) in
+    (counted_on start slot prefix before (move own slice text) (line.N noted) refl counts) in
     record {
       counts = rest.counts;
       commands = rest.commands;
@@ -186,17 +186,17 @@ met_slot slot n start front before (move own slice text ∷ made) (line.N noted 
       rises = rest.rises;
       events = rest.events;
     }
-met_slot slot n start front before (move own slice text ∷ made) (line.C answered ∷ entries) answers each counts =
+met_slot slot n start prefix before (move own slice text ∷ made) (line.C answered ∷ entries) answers each counts =
     absurd answers.0
-met_slot slot n start front before (move own slice text ∷ made) (line.P judged ∷ entries) answers each counts =
+met_slot slot n start prefix before (move own slice text ∷ made) (line.P judged ∷ entries) answers each counts =
     absurd answers.0
-met_slot slot n start front before (move own slice text ∷ made) (line.F refused ∷ entries) answers each counts =
+met_slot slot n start prefix before (move own slice text ∷ made) (line.F refused ∷ entries) answers each counts =
     absurd answers.0
-met_slot slot n start front before (command own c ∷ made) (line.N noted ∷ entries) answers each counts =
+met_slot slot n start prefix before (command own c ∷ made) (line.N noted ∷ entries) answers each counts =
     absurd answers.0
-met_slot slot n start front before (command own c ∷ made) (line.C answered ∷ entries) answers each counts =
+met_slot slot n start prefix before (command own c ∷ made) (line.C answered ∷ entries) answers each counts =
     let rest = met_slot slot (n + 1) start _ (with_line slot before (command own c)) made entries answers.1 each.1
-    (counted_on start slot front before (command own c) (line.C answered) refl counts) in
+    (counted_on start slot prefix before (command own c) (line.C answered) refl counts) in
     let placed = placed_counts slot (n + 1) made entries answers.1 in
     let first = command_first (own == slot) before c (commands_accepted slot (lines_told made entries))
     (packets_accepted slot (lines_told made entries))
@@ -210,17 +210,17 @@ met_slot slot n start front before (command own c ∷ made) (line.C answered ∷
       rises = subst (Rises (length (commands_of before))) placed first.0;
       events = first.1;
     }
-met_slot slot n start front before (command own c ∷ made) (line.P judged ∷ entries) answers each counts =
+met_slot slot n start prefix before (command own c ∷ made) (line.P judged ∷ entries) answers each counts =
     absurd answers.0
-met_slot slot n start front before (command own c ∷ made) (line.F refused ∷ entries) answers each counts = absurd each.0
-met_slot slot n start front before (packet own p ∷ made) (line.N noted ∷ entries) answers each counts = absurd answers.0
-met_slot slot n start front before (packet own p ∷ made) (line.C answered ∷ entries) answers each counts =
+met_slot slot n start prefix before (command own c ∷ made) (line.F refused ∷ entries) answers each counts = absurd each.0
+met_slot slot n start prefix before (packet own p ∷ made) (line.N noted ∷ entries) answers each counts = absurd answers.0
+met_slot slot n start prefix before (packet own p ∷ made) (line.C answered ∷ entries) answers each counts =
     absurd answers.0
-met_slot slot n start front before (packet own p ∷ made) (line.P judged ∷ entries) answers each counts =
+met_slot slot n start prefix before (packet own p ∷ made) (line.P judged ∷ entries) answers each counts =
     let rest = met_slot slot (n + 1) start _ (with_line slot before (packet own p)) made entries answers.1 each.1
-    (counted_on start slot front before (packet own p) (line.P judged) refl counts) in
+    (counted_on start slot prefix before (packet own p) (line.P judged) refl counts) in
     let meets : (own == slot) ≡ true → judged.commands ≡ length (commands_of before) =
-    λ own_slot. each.0 ∙ ap (λ s. count_in_sequence start s front) (answers.0.1 ∙ eqb-true own slot own_slot)
+    λ own_slot. each.0 ∙ ap (λ s. count_in_sequence start s prefix) (answers.0.1 ∙ eqb-true own slot own_slot)
     ∙ sym counts in
     let first = packet_first (own == slot) before judged.commands p (commands_accepted slot (lines_told made entries))
     (packets_accepted slot (lines_told made entries)) (filter_map (commands_told slot) entries)
@@ -237,4 +237,4 @@ met_slot slot n start front before (packet own p ∷ made) (line.P judged ∷ en
           (sym answers.0.1) first.0;
       events = first.1;
     }
-met_slot slot n start front before (packet own p ∷ made) (line.F refused ∷ entries) answers each counts = absurd each.0
+met_slot slot n start prefix before (packet own p ∷ made) (line.F refused ∷ entries) answers each counts = absurd each.0

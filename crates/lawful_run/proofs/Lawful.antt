@@ -15,16 +15,16 @@ use Rattle.lawful_run.specs.Refusals.{RefusedWhereFull, RefusedAs}
 
 -- what holds of each line, and gives something else, gives that of each line
 pub each_gives : (P Q : List LineTold → LineTold → List LineTold → Type 0)
-    → ((front : List LineTold) (now : LineTold) (later : List LineTold) → P front now later → Q front now later)
-    → (front lines : List LineTold) → EachFrom P front lines → EachFrom Q front lines
-each_gives P Q gives front [] each = tt
-each_gives P Q gives front (now ∷ later) each =
-    (gives front now later each.0, each_gives P Q gives (front ++ now ∷ []) later each.1)
+    → ((prefix : List LineTold) (now : LineTold) (later : List LineTold) → P prefix now later → Q prefix now later)
+    → (prefix lines : List LineTold) → EachFrom P prefix lines → EachFrom Q prefix lines
+each_gives P Q gives prefix [] each = tt
+each_gives P Q gives prefix (now ∷ later) each =
+    (gives prefix now later each.0, each_gives P Q gives (prefix ++ now ∷ []) later each.1)
 
 -- the commands before a last move are some of all, and those behind are more
-commands-front : (slot : ℕ) (now : LineTold) (lines : List LineTold)
+commands-prefix : (slot : ℕ) (now : LineTold) (lines : List LineTold)
     → command_count slot lines ≤ command_count slot (now ∷ lines)
-commands-front slot now lines =
+commands-prefix slot now lines =
     let parts : command_count slot ((now ∷ []) ++ lines) ≡ command_count slot (now ∷ []) + command_count slot lines =
     simp (filter_map-append, length-append) in
     omega (arith, parts)
@@ -48,52 +48,52 @@ before_last_move-count slot (now ∷ later) =
     (before_last_move-count slot later)
 
 -- what meets just the commands before it is within the bounds of any setup
-pub meets_in_sequence : (setup : Setup) (start : Histories) (slot : ℕ) (front later : List LineTold) (count : ℕ)
-    → count ≡ count_in_sequence start slot front
-    → MayMeet setup start slot front later count
-meets_in_sequence solo start slot front later count is = is
-meets_in_sequence (sliced slices room lane) start slot front later count is =
-    let some_before = before_last_move-count slot front in
-    let some_more : command_count slot (front ++ before_next_move slot later) ≡ command_count slot front
+pub meets_in_sequence : (setup : Setup) (start : Histories) (slot : ℕ) (prefix later : List LineTold) (count : ℕ)
+    → count ≡ count_in_sequence start slot prefix
+    → MayMeet setup start slot prefix later count
+meets_in_sequence solo start slot prefix later count is = is
+meets_in_sequence (sliced slices room lane) start slot prefix later count is =
+    let some_before = before_last_move-count slot prefix in
+    let some_more : command_count slot (prefix ++ before_next_move slot later) ≡ command_count slot prefix
     + command_count slot (before_next_move slot later) =
     simp (filter_map-append, length-append) in
     (omega (arith, is, some_before), omega (arith, is, some_more))
 
-pub entry_within : (setup : Setup) (start : Histories) (front : List LineTold) (entry : LineEntry) (later : List LineTold)
-    → EntryInSequence start front entry → MeetsAs setup start front entry later
-entry_within setup start front (line.N noted) later once = tt
-entry_within setup start front (line.C answered) later once = tt
-entry_within setup start front (line.P judged) later once =
-    meets_in_sequence setup start judged.slot front later judged.commands once.commands
-entry_within setup start front (line.F refused) later once = absurd once
+pub entry_within : (setup : Setup) (start : Histories) (prefix : List LineTold) (entry : LineEntry) (later : List LineTold)
+    → EntryInSequence start prefix entry → MeetsAs setup start prefix entry later
+entry_within setup start prefix (line.N noted) later once = tt
+entry_within setup start prefix (line.C answered) later once = tt
+entry_within setup start prefix (line.P judged) later once =
+    meets_in_sequence setup start judged.slot prefix later judged.commands once.commands
+entry_within setup start prefix (line.F refused) later once = absurd once
 
 -- nothing is refused, and nothing is parked
-pub entry_not_refused : (setup : Setup) (start : Histories) (front : List LineTold) (now : LineTold) (entry : LineEntry)
-    → EntryInSequence start front entry → RefusedAs setup front now entry
-entry_not_refused setup start front now (line.N noted) once = tt
-entry_not_refused setup start front now (line.C answered) once = tt
-entry_not_refused setup start front now (line.P judged) once = tt
-entry_not_refused setup start front now (line.F refused) once = absurd once
+pub entry_not_refused : (setup : Setup) (start : Histories) (prefix : List LineTold) (now : LineTold) (entry : LineEntry)
+    → EntryInSequence start prefix entry → RefusedAs setup prefix now entry
+entry_not_refused setup start prefix now (line.N noted) once = tt
+entry_not_refused setup start prefix now (line.C answered) once = tt
+entry_not_refused setup start prefix now (line.P judged) once = tt
+entry_not_refused setup start prefix now (line.F refused) once = absurd once
 
-pub entry_not_parked : (start : Histories) (front : List LineTold) (entry : LineEntry)
-    → EntryInSequence start front entry → ParkedAs front entry
-entry_not_parked start front (line.N noted) once = tt
-entry_not_parked start front (line.C answered) once = tt
-entry_not_parked start front (line.P judged) once =
-    subst (λ parked. MayPark parked judged.slot front) (sym once.parked) tt
-entry_not_parked start front (line.F refused) once = absurd once
+pub entry_not_parked : (start : Histories) (prefix : List LineTold) (entry : LineEntry)
+    → EntryInSequence start prefix entry → ParkedAs prefix entry
+entry_not_parked start prefix (line.N noted) once = tt
+entry_not_parked start prefix (line.C answered) once = tt
+entry_not_parked start prefix (line.P judged) once =
+    subst (λ parked. MayPark parked judged.slot prefix) (sym once.parked) tt
+entry_not_parked start prefix (line.F refused) once = absurd once
 
 module _ (setup : Setup) (start : Histories) (lines : List LineTold) (once : EachFrom (LineInSequence start) [] lines) where
   pub within : EachFrom (MeetsBounds setup start) [] lines
   within =
       each_gives (LineInSequence start) (MeetsBounds setup start)
-      (λ front now later here. entry_within setup start front now.entry later here) [] lines once
+      (λ prefix now later here. entry_within setup start prefix now.entry later here) [] lines once
 
   pub not_refused : EachFrom (RefusedWhereFull setup) [] lines
   not_refused =
       each_gives (LineInSequence start) (RefusedWhereFull setup)
-      (λ front now later here. entry_not_refused setup start front now now.entry here) [] lines once
+      (λ prefix now later here. entry_not_refused setup start prefix now now.entry here) [] lines once
 
   pub not_parked : EachFrom ParkedBehindMoves [] lines
   not_parked = each_gives (LineInSequence start) ParkedBehindMoves
-      (λ front now later here. entry_not_parked start front now.entry here) [] lines once
+      (λ prefix now later here. entry_not_parked start prefix now.entry here) [] lines once

@@ -1,8 +1,8 @@
 -- A note behind an epoch's lines changes nothing that is told of them.
-use Rattle.std.proofs.Common.{◌≡◌, ℕ, ◌+◌, ◌≤◌, Bool, true, false, if◌then◌else◌, List, [], ◌∷◌, ◌++◌, Option, None, Some, filter_map, length, refl, sym, ap, ap₂, subst, ◌∙◌, arith, append-nil, add-zero}
+use Rattle.std.proofs.Common.{◌≡◌, ℕ, ◌+◌, Bool, true, false, if◌then◌else◌, List, [], ◌∷◌, ◌++◌, Option, None, filter_map, length, refl, sym, ap, ap₂, subst, ◌∙◌, arith, append-nil, add-zero}
 use Rattle.std.proofs.lemmas.List.Elements.{filter_map-append}
 use Rattle.std.specs.List.{cons_option}
-use Rattle.demux.specs.Trace.{Meaning, command, packet, move, note}
+use Rattle.demux.specs.Trace.{Meaning, note}
 use Rattle.gate_model.specs.Events.{commands_of, packets_of}
 use Rattle.report_lines.specs.declared.entry.LineEntry.{LineEntry}
 use Rattle.report_lines.specs.declared.entry.LineEntry.TheVariants as line
@@ -136,9 +136,9 @@ module _ (first : ℕ) (before : Histories) (made : List Meaning) (told : EpochR
 
   -- what holds of each line holds with it
   each_noted : (P : List LineTold → LineTold → List LineTold → Type 0)
-      → ((front : List LineTold) (now : LineTold) (later : List LineTold) → P front now later
-      → P front now (later ++ last ∷ []))
-      → ((front : List LineTold) → P front last [])
+      → ((prefix : List LineTold) (now : LineTold) (later : List LineTold) → P prefix now later
+      → P prefix now (later ++ last ∷ []))
+      → ((prefix : List LineTold) → P prefix last [])
       → EachFrom P [] (told_in made told) → EachFrom P [] now_told
   each_noted P grows ends each =
       subst (EachFrom P []) (sym lines_are) (each_more P last grows ends [] (told_in made told) each)
@@ -154,8 +154,8 @@ module _ (first : ℕ) (before : Histories) (made : List Meaning) (told : EpochR
     counts_rise = λ slot. subst (Rises (count_before before slot)) (sym (entry_noted (commands_told slot) refl))
         (is.counts_rise slot);
     bounds = each_noted (MeetsBounds setup before)
-        (λ front now later meets. meets_noted (first + length made) text setup before front now.entry later meets)
-        (λ front. tt) is.bounds;
+        (λ prefix now later meets. meets_noted (first + length made) text setup before prefix now.entry later meets)
+        (λ prefix. tt) is.bounds;
     replies = λ slot. entry_noted (reply_told slot) refl ∙ is.replies slot
         ∙ ap (made_of.replies slot (before slot)) (sym (events_noted slot));
     verdicts = λ slot. entry_noted (verdict_told slot) refl ∙ is.verdicts slot
@@ -164,8 +164,8 @@ module _ (first : ℕ) (before : Histories) (made : List Meaning) (told : EpochR
         ∙ λ i. by_slot slots (λ slot. made_of.effects slot (before slot) (sym (events_noted slot) i));
     rows = is.rows
         ∙ λ i. by_slot slots (λ slot. made_of.rows slot (before slot) (sym (events_noted slot) i));
-    refusals = each_noted (RefusedWhereFull setup) (λ front now later may. may) (λ front. tt) is.refusals;
-    parking = each_noted ParkedBehindMoves (λ front now later may. may) (λ front. tt) is.parking;
+    refusals = each_noted (RefusedWhereFull setup) (λ prefix now later may. may) (λ prefix. tt) is.refusals;
+    parking = each_noted ParkedBehindMoves (λ prefix now later may. may) (λ prefix. tt) is.parking;
   }
 
 pub note_is_lawful : NoteIsLawful

@@ -22,21 +22,21 @@ use Rattle.lawful_run.proofs.Meets.{LineMeets, MeetsOnce, in_sequence_meets, sol
 use Rattle.lawful_run.proofs.OneList.{TellTheSame, NotRefused, NoneRefused, one_list}
 
 -- no line is refused
-not_refused : (start : Histories) (front : List LineTold) (entry : LineEntry) → MeetsOnce start front entry
+not_refused : (start : Histories) (prefix : List LineTold) (entry : LineEntry) → MeetsOnce start prefix entry
     → NotRefused entry
-not_refused start front (line.N noted) meets = tt
-not_refused start front (line.C answered) meets = tt
-not_refused start front (line.P judged) meets = tt
-not_refused start front (line.F refused) meets = absurd meets
+not_refused start prefix (line.N noted) meets = tt
+not_refused start prefix (line.C answered) meets = tt
+not_refused start prefix (line.P judged) meets = tt
+not_refused start prefix (line.F refused) meets = absurd meets
 
-none_refused : (n : ℕ) (start : Histories) (front : List LineTold) (made : List Meaning) (entries : List LineEntry)
+none_refused : (n : ℕ) (start : Histories) (prefix : List LineTold) (made : List Meaning) (entries : List LineEntry)
     → AnswersAll n made entries
-    → EachFrom (LineMeets start) front (lines_told made entries) → NoneRefused entries
-none_refused n start front [] [] answers each = tt
-none_refused n start front [] (entry ∷ entries) answers each = absurd answers
-none_refused n start front (now ∷ made) [] answers each = absurd answers
-none_refused n start front (now ∷ made) (entry ∷ entries) answers each =
-    (not_refused start front entry each.0, none_refused (n + 1) start _ made entries answers.1 each.1)
+    → EachFrom (LineMeets start) prefix (lines_told made entries) → NoneRefused entries
+none_refused n start prefix [] [] answers each = tt
+none_refused n start prefix [] (entry ∷ entries) answers each = absurd answers
+none_refused n start prefix (now ∷ made) [] answers each = absurd answers
+none_refused n start prefix (now ∷ made) (entry ∷ entries) answers each =
+    (not_refused start prefix entry each.0, none_refused (n + 1) start _ made entries answers.1 each.1)
 
 -- an epoch
 module _ (setup : Setup) (slots first : ℕ) (before : Histories) (made : List Meaning) (told : EpochReport)
@@ -106,24 +106,24 @@ settled (line.C answered) = line.C answered
 settled (line.P judged) = line.P (record judged { place = Some Closing; parked = false })
 settled (line.F refused) = line.F refused
 
-settled_entry : (start : Histories) (front : List LineTold) (entry : LineEntry) → EntryInSequence start front entry
+settled_entry : (start : Histories) (prefix : List LineTold) (entry : LineEntry) → EntryInSequence start prefix entry
     → settled (line_without_place entry) ≡ entry
 unfolding settled
-settled_entry start front (line.N noted) once = refl
-settled_entry start front (line.C answered) once = refl
-settled_entry start front (line.P judged) once =
+settled_entry start prefix (line.N noted) once = refl
+settled_entry start prefix (line.C answered) once = refl
+settled_entry start prefix (line.P judged) once =
     λ i. line.P (record judged { place = sym once.place i; parked = sym once.parked i })
-settled_entry start front (line.F refused) once = absurd once
+settled_entry start prefix (line.F refused) once = absurd once
 
-settled_lines : (n : ℕ) (start : Histories) (front : List LineTold) (made : List Meaning)
+settled_lines : (n : ℕ) (start : Histories) (prefix : List LineTold) (made : List Meaning)
     (entries : List LineEntry) → AnswersAll n made entries
-    → EachFrom (LineInSequence start) front (lines_told made entries)
+    → EachFrom (LineInSequence start) prefix (lines_told made entries)
     → map settled (map line_without_place entries) ≡ entries
-settled_lines n start front [] [] answers each = refl
-settled_lines n start front [] (entry ∷ entries) answers each = absurd answers
-settled_lines n start front (now ∷ made) [] answers each = absurd answers
-settled_lines n start front (now ∷ made) (entry ∷ entries) answers each =
-    let head = settled_entry start front entry each.0 in
+settled_lines n start prefix [] [] answers each = refl
+settled_lines n start prefix [] (entry ∷ entries) answers each = absurd answers
+settled_lines n start prefix (now ∷ made) [] answers each = absurd answers
+settled_lines n start prefix (now ∷ made) (entry ∷ entries) answers each =
+    let head = settled_entry start prefix entry each.0 in
     let tail = settled_lines (n + 1) start _ made entries answers.1 each.1 in
     λ i. head i ∷ tail i
 

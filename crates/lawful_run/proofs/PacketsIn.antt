@@ -5,7 +5,7 @@ use Rattle.std.specs.Option.{option_and_then, option_map, unwrap_or}
 use Rattle.std.proofs.lemmas.List.Elements.{All-from_recursion}
 use Rattle.bearer_state.specs.Version.{VersionState, bearer_at}
 use Rattle.bearer_state.specs.declared.version.ActiveBearer.{ActiveBearer}
-use Rattle.charging_book.specs.Happenings.{Happening, started, forwarded, closed}
+use Rattle.charging_book.specs.Happenings.{started, closed}
 use Rattle.charging_book.specs.declared.records.Why.TheVariants.{Qos, Gone}
 use Rattle.gtpv2_ie.specs.declared.value.IeValue.TheVariants.{Ebi}
 use Rattle.ipv4_packet.specs.Fields.{source_of}

@@ -1,5 +1,5 @@
 -- The ranges of what is remembered of a slot, where its events are in theirs.
-use Rattle.std.specs.Prelude.{◌≡◌, ℕ, ◌<◌, ◌≤◌, ◌==◌, ◌^◌, List, length, map, IfSome, nat_eq}
+use Rattle.std.specs.Prelude.{ℕ, ◌<◌, ◌≤◌, ◌^◌, List, length, map, IfSome, nat_eq}
 use Rattle.std.specs.List.{AllByRecursion, IsDistinct}
 use Rattle.pc_base.specs.declared.packet.Packet.{Packet}
 use Rattle.charging_book.specs.Happenings.{Happening, started, forwarded, closed}

@@ -249,7 +249,7 @@ module _ {H I : Type 0} (slot_of : H → ℕ) (item_slot : I → ℕ) (handled :
     by_state (Recall at to) serves settled was = absurd (true≢false (sym settled))
     by_state (Leaving from to) serves settled was = absurd (true≢false (sym settled))
 
-  pub gave_leaves : (slices room : ℕ) (item : I) (answer : Result (Unit {0}) (DataNo I))
+  pub gave_leaves : (slices room : ℕ) (item : I) (answer : Result Bool (DataNo I))
       (place new : Option (DataPlace H I)) (desks now : List (DataDesk H I)) → Fits slices room place
       → Gave slot_of item_slot handled s room item answer place new desks now
       → leaves (state_at new) ≡ leaves (state_at place)

@@ -165,7 +165,7 @@ module _ {H I : Type 0} (slot_of : H → ℕ) (item_slot : I → ℕ) (handled :
         (sym due ∙ ap (λ (x : Option (DataState H)). gives_at x (length after.queue.items)) same
         ∙ ap (λ (x : DataState H). gives x (length after.queue.items)) was))
 
-  pub gave_due : (room : ℕ) (item : I) (answer : Result (Unit {0}) (DataNo I)) (place new : Option (DataPlace H I))
+  pub gave_due : (room : ℕ) (item : I) (answer : Result Bool (DataNo I)) (place new : Option (DataPlace H I))
       (desks now : List (DataDesk H I)) → Gave slot_of item_slot handled s room item answer place new desks now
       → is_due new ≡ true → is_due place ≡ true
   gave_due room item answer None new desks now gave due =

@@ -2,11 +2,10 @@
 use Rattle.std.proofs.Common.{◌≡◌, ◌≢◌, ℕ, ◌+◌, ◌*◌, ◌^◌, ◌<◌, ◌≤◌, inl, inr, Bool, true, false}
 use Rattle.std.proofs.Common.{true≢false, List, [], ◌∷◌, length, length-append, map, set, refl, sym}
 use Rattle.std.proofs.Common.{ap, ◌∙◌, subst, arith}
-use Rattle.std.specs.Prelude.{nat_eq, nat_lt, Option, Some, None, Result, Ok, Err, IfErr}
-use Rattle.std.proofs.lemmas.List.{get_or_past, get_or-set_same, get_or-set_other, set-set}
+use Rattle.std.specs.Prelude.{nat_eq, Option, Some, None, Result, Ok, Err, IfErr}
+use Rattle.std.proofs.lemmas.List.{get_or-set_same, get_or-set_other, set-set}
 use Rattle.std.proofs.Math.Seq.{map-set_same}
 use Rattle.std.proofs.lemmas.Bool.{eqb-true, eqb-false}
-use borrow.Author.Tests.{ltb-true, ltb-false}
 use Rattle.lane_core.specs.Ends.{sender_lane}
 use Rattle.worker_core.specs.declared.data_order.DataOrder.TheVariants.{Arrive, Leave}
 use Rattle.worker_core.specs.Workers.{Lanes}
@@ -120,7 +119,7 @@ module _ {H N I : Type 0} (name : H → N) (slot_at : N → ℕ) (item_slot : I 
       (at.3.fits room) (omega arith)
       (let e = ap length at.3.accepted in omega arith)
 
-  gave_few : (item : I) (answer : Result (Unit {0}) (DataNo I)) (asked : ℕ) (before after : List I)
+  gave_few : (item : I) (answer : Result Bool (DataNo I)) (asked : ℕ) (before after : List I)
       → asked < 2 ^ 48 → Accepts item answer before after
       → (asked_after answer asked ≤ 2 ^ 48) × (2 * asked + 0 + 2 * length after ≤ 2 * asked_after answer
       asked + 2 * length before)
@@ -129,7 +128,7 @@ module _ {H N I : Type 0} (name : H → N) (slot_at : N → ℕ) (item_slot : I 
   gave_few item (Err refusal) asked before after few accepts = let e = ap length accepts.0 in
       (omega arith, omega arith)
 
-  pub gave_still : (item : I) (answer : Result (Unit {0}) (DataNo I)) (places new : List (Option (DataPlace H I)))
+  pub gave_still : (item : I) (answer : Result Bool (DataNo I)) (places new : List (Option (DataPlace H I)))
       (s : ℕ) (aside : List (UnexpectedHalf H)) (desks now : List (DataDesk H I))
       (room admitted asked : ℕ) → Side places aside desks room admitted asked → asked < 2 ^ 48
       → AtSlot (Gave slot item_slot handled s room item answer) s places new desks now
@@ -141,9 +140,6 @@ module _ {H N I : Type 0} (name : H → N) (slot_at : N → ℕ) (item_slot : I 
 
 pub waits_not : (slice : ℕ) → ◌≡◌ {A = Option ℕ} None (Some slice) → ⊥
 waits_not slice is = let none : ⊥ = cc in none
-
-pub queues_not : (slice : ℕ) → (◌≡◌ {A = Option ℕ} None (Some slice)) × (0 < 0) → ⊥
-queues_not slice is = waits_not slice is.0
 
 -- the accepted items and the moves of all slots are as they were
 pub lists_set : {H I X : Type 0} (f : Option (DataPlace H I) → X) (places new : List (Option (DataPlace H I)))
@@ -165,42 +161,6 @@ module _ {H I : Type 0} where
       → List (DataDesk H I) → List (DataDesk H I) → Type 0
   MeetsBelow Q k places first now = (t slice : ℕ) → t < k → Q (place_at places t) slice
       → Rises (fulls_at first slice) (fulls_at now slice)
-
-  pub meets_none : (Q : Option (DataPlace H I) → ℕ → Type 0) (places : List (Option (DataPlace H I)))
-      (desks : List (DataDesk H I)) → MeetsBelow Q 0 places desks desks
-  meets_none Q places desks t slice low is = absurd (omega arith)
-
-  pub meets_more : (Q : Option (DataPlace H I) → ℕ → Type 0) (k : ℕ) (places new : List (Option (DataPlace H I)))
-      (place : Option (DataPlace H I)) (first desks now : List (DataDesk H I))
-      → k < length places → new ≡ set places k place → ((d : ℕ) → Lasts (fulls_at first d) (fulls_at desks d))
-      → ((d : ℕ) → Lasts (fulls_at desks d) (fulls_at now d))
-      → ((slice : ℕ) → Q place slice → Rises (fulls_at desks slice) (fulls_at now slice))
-      → MeetsBelow Q k places first desks → MeetsBelow Q (k + 1) new first now
-  meets_more Q k places new place first desks now within made earlier later again met t slice low is =
-      elim (nat_eq t k) as (λ b. nat_eq t k ≡ b → Rises (fulls_at first slice) (fulls_at now slice)) [
-        | true ↦ λ e.
-            let here = subst (λ (n : ℕ). Q (place_at new n) slice) (eqb-true t k e) is in
-            then_rises (fulls_at first slice) (fulls_at desks slice) (fulls_at now slice) (earlier slice)
-            (again slice (subst (λ (p : Option (DataPlace H I)). Q p slice) (at_new places new place k within made)
-            here))
-        | false ↦ λ e.
-            let apart : t ≢ k = eqb-false t k e in
-            rises_then (fulls_at first slice) (fulls_at desks slice) (fulls_at now slice)
-            (met t slice (omega arith) (subst (λ (p : Option (DataPlace H I)). Q p slice)
-            (at_old places new place k t apart made) is)) (later slice)
-      ] refl
-
-  pub meets_all : (Q : Option (DataPlace H I) → ℕ → Type 0) (places : List (Option (DataPlace H I)))
-      (first now : List (DataDesk H I)) (k : ℕ) → length places ≤ k
-      → ((slice : ℕ) → Q None slice → ⊥) → MeetsBelow Q k places first now → (t slice : ℕ)
-      → Q (place_at places t) slice → Rises (fulls_at first slice) (fulls_at now slice)
-  meets_all Q places first now k all none met t slice is =
-      elim (nat_lt t (length places)) as (λ b. nat_lt t (length places) ≡ b
-      → Rises (fulls_at first slice) (fulls_at now slice)) [
-        | true ↦ λ e. let l : t < length places = ltb-true t (length places) e in met t slice (omega arith) is
-        | false ↦ λ e. absurd (none slice (subst (λ (p : Option (DataPlace H I)). Q p slice)
-            (get_or_past places t None (ltb-false t (length places) e)) is))
-      ] refl
 
   abbrev pub Waits : Option (DataPlace H I) → ℕ → Type 0
   Waits place slice = waits_at place ≡ Some slice
@@ -338,7 +298,7 @@ module _ {H I : Type 0} (slot_of : H → ℕ) (item_slot : I → ℕ) (handled :
             (subst (λ (x : DataState H). Serves s before.state x desks delivers.mid) front.2 delivers.serves))
       ]
 
-  pub gave_full : (item : I) (answer : Result (Unit {0}) (DataNo I)) (s t room : ℕ)
+  pub gave_full : (item : I) (answer : Result Bool (DataNo I)) (s t room : ℕ)
       (places new : List (Option (DataPlace H I))) (desks now : List (DataDesk H I))
       → s ≡ t → is_admitted (place_at places t) ≡ true → AtSlot (Gave slot_of item_slot handled s room item answer)
       s places new desks now

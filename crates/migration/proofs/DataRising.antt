@@ -154,10 +154,6 @@ joins_in slot end busy due later within is none put =
       others = λ other among. subst (λ l. is_among other l ≡ true) same (with_other slot other due among);
     }
 
-pub joins_none : (slot end : ℕ) (busy : Bool) (due : List ℕ) → is_rising 0 end due ≡ true
-    → (busy ≡ true → is_among slot due ≡ true) → Joins busy slot end due due
-joins_none slot end busy due is there = record { rising = is; here = there; others = λ other among. among }
-
 -- there is room for one more
 pub room_more : (slot end : ℕ) (due : List ℕ) → is_rising 0 end due ≡ true → slot < end → is_among slot due ≡ false
     → length due < end

@@ -1,7 +1,7 @@
 -- What the tables of steps say of the slot, of its place and of the lanes.
 use Rattle.std.proofs.Common.{◌≡◌, ℕ, zero, suc, ◌+◌, ◌<◌, ◌≤◌, inl, inr, Bool, true, false, true≢false, not, cond}
 use Rattle.std.proofs.Common.{List, [], ◌∷◌, ◌++◌, length, map, set, refl, sym, ap, ◌∙◌, subst, arith, length-append}
-use Rattle.std.specs.Prelude.{Option, Some, None, Result, Ok, Err, OnOk, OnErr, IfErr, nat_eq, ◌&&◌, ◌||◌}
+use Rattle.std.specs.Prelude.{Option, Some, None, Result, Ok, Err, OnOk, OnErr, IfOk, IfErr, nat_eq, ◌&&◌, ◌||◌}
 use Rattle.std.specs.List.{sum_by, All}
 use Rattle.std.proofs.lemmas.List.{set-get_or, map-append}
 use Rattle.std.proofs.lemmas.Bool.{eq-eqb, ne_eqb}
@@ -9,7 +9,7 @@ use Rattle.std.proofs.lemmas.List.Elements.{All-head, All-tail}
 use Rattle.worker_core.specs.DataDesks.{DataDesk}
 use Rattle.worker_core.specs.declared.data_order.DataOrder.{DataOrder}
 use Rattle.worker_core.specs.declared.data_order.DataOrder.TheVariants.{Arrive, Item}
-use Rattle.worker_core.specs.DataOrders.{stands_after, stands_from, stands, MayFollow}
+use Rattle.worker_core.specs.DataOrders.{stands_after, stands_from, stands}
 use Rattle.worker_core.specs.Counts.{Rises}
 use Rattle.worker_core.proofs.Rising.{rises_raised, then_rises}
 use Rattle.migration.specs.declared.data_place.DataPlace.{DataPlace}
@@ -65,10 +65,6 @@ module _ {H I : Type 0} (slot : H → ℕ) (item_slot : I → ℕ) (handled : H 
   pub keeps_same : (old new : Stand H I) → new ≡ old → Keeps slot item_slot handled s 0 old new
   keeps_same old new same = subst (λ (x : Stand H I). Keeps slot item_slot handled s 0 old x) (sym same)
       (keeps_none slot item_slot handled s old)
-
-  pub may_arrive : (half : H) (desks : List (DataDesk H I)) (to : ℕ) → MayGive slot item_slot s (Front half to) desks
-      → MayFollow slot item_slot (sent_at desks to) (Arrive half)
-  may_arrive half desks to law = ap (λ n. stands slot item_slot n (sent_at desks to)) law.0 ∙ law.1
 
   module _ (queue accepted : List I) (desks now : List (DataDesk H I)) where
     abbrev from : DataState H → Stand H I
@@ -128,7 +124,7 @@ module _ {H I : Type 0} (slot : H → ℕ) (item_slot : I → ℕ) (handled : H 
         (till new) goes.0 refl refl goes.1
 
   -- an item lands, or comes back
-  lands_keeps : (item : I) (answer : Result (Unit {0}) (DataNo I)) (state : DataState H) (accepted later : List I)
+  lands_keeps : (item : I) (answer : Result Bool (DataNo I)) (state : DataState H) (accepted later : List I)
       (desks now : List (DataDesk H I))
       → item_slot item ≡ s → Lands item state answer desks now → Accepts item answer accepted later
       → Keeps slot item_slot handled s 0 (record { state = state; queue = []; accepted = accepted; desks = desks })
@@ -171,7 +167,7 @@ module _ {H I : Type 0} (slot : H → ℕ) (item_slot : I → ℕ) (handled : H 
         })
       ]
 
-  pub delivers_keeps : (item : I) (answer : Result (Unit {0}) (DataNo I)) (state new : DataState H)
+  pub delivers_keeps : (item : I) (answer : Result Bool (DataNo I)) (state new : DataState H)
       (accepted later : List I) (desks now : List (DataDesk H I))
       → item_slot item ≡ s → MayGive slot item_slot s state desks → Delivers s item answer state new desks now
       → Accepts item answer accepted later
@@ -592,7 +588,7 @@ module _ {H I : Type 0} (slot : H → ℕ) (item_slot : I → ℕ) (handled : H
             (sym (ap placed_at state) ∙ is) some;
       }
 
-  takes_keeps : (room : ℕ) (item : I) (answer : Result (Unit {0}) (DataNo I)) (state : DataState H)
+  takes_keeps : (room : ℕ) (item : I) (answer : Result Bool (DataNo I)) (state : DataState H)
       (accepted later queue left : List I) → item_slot item ≡ s
       → QueueTakes room item answer queue left → Accepts item answer accepted later → (mid : List (DataDesk H I))
       → mid ≡ desks
@@ -610,7 +606,7 @@ module _ {H I : Type 0} (slot : H → ℕ) (item_slot : I → ℕ) (handled : H
         desks = same i;
       })
 
-  takes_room : (room : ℕ) (item : I) (answer : Result (Unit {0}) (DataNo I)) (queue left : List I)
+  takes_room : (room : ℕ) (item : I) (answer : Result Bool (DataNo I)) (queue left : List I)
       → QueueTakes room item answer queue left
       → length queue ≤ room → length left ≤ room
   takes_room room item (Ok u) queue left takes few =
@@ -621,13 +617,14 @@ module _ {H I : Type 0} (slot : H → ℕ) (item_slot : I → ℕ) (handled : H
   and_right true b e = refl
   and_right false b e = absurd (true≢false (sym e))
 
-  pub gave_parked : (room : ℕ) (item : I) (answer : Result (Unit {0}) (DataNo I)) → item_slot item ≡ s
+  pub gave_parked : (room : ℕ) (item : I) (answer : Result Bool (DataNo I)) → item_slot item ≡ s
       → parks_at (Some before) ≡ true
       → after.moved ≡ before.moved → after.admitted ≡ before.admitted
       → Accepts item answer (accepted_by before) (accepted_by after)
+      → IfOk answer (λ is_parked. is_parked ≡ parks_at (Some before))
       → now ≡ desks → after.state ≡ before.state → QueueTakes room item answer before.queue.items after.queue.items
       → Gave slot item_slot handled s room item answer (Some before) (Some after) desks now
-  gave_parked room item answer own parks moved admitted accepts same state takes = record {
+  gave_parked room item answer own parks moved admitted accepts told same state takes = record {
     keeps = place_keeps 0 admitted after.queue.items (accepted_by after) refl refl
         (subst (λ (x : DataState H). Keeps slot item_slot handled s 0 (stand_of before desks)
         (record { state = x; queue = after.queue.items; accepted = accepted_by after; desks = now })) (sym state)
@@ -640,26 +637,28 @@ module _ {H I : Type 0} (slot : H → ℕ) (item_slot : I → ℕ) (handled : H
       λ rests. absurd (true≢false (sym (and_right before.moved _ parks) ∙ sym moved ∙ rests)),
     );
     accepted = accepts;
+    told = told;
     moved = moved;
     parked = λ is. (same, takes);
     stays = λ is. ap (λ (x : DataState H). Some x) state;
     placed = λ isnt. absurd (true≢false (sym parks ∙ isnt));
   }
 
-  delivers_fit : (item : I) (answer : Result (Unit {0}) (DataNo I))
+  delivers_fit : (item : I) (answer : Result Bool (DataNo I))
       → Delivers s item answer before.state after.state desks now → (room : ℕ)
       → Fits (length desks) room (Some before)
       → (at_end after.state ≤ length desks) × (to_end after.state ≤ length desks)
   delivers_fit item answer delivers room fits = serves_fit desks delivers.mid s (length desks) before.state
       after.state fits.0 fits.1 delivers.serves
 
-  pub gave_placed : (room : ℕ) (item : I) (answer : Result (Unit {0}) (DataNo I)) → item_slot item ≡ s
+  pub gave_placed : (room : ℕ) (item : I) (answer : Result Bool (DataNo I)) → item_slot item ≡ s
       → Fits (length desks) room (Some before)
       → parks_at (Some before) ≡ false → after.moved ≡ before.moved → after.admitted ≡ before.admitted
       → Accepts item answer (accepted_by before) (accepted_by after)
+      → IfOk answer (λ is_parked. is_parked ≡ parks_at (Some before))
       → after.queue.items ≡ before.queue.items → Delivers s item answer before.state after.state desks now
       → Gave slot item_slot handled s room item answer (Some before) (Some after) desks now
-  gave_placed room item answer own fits parks moved admitted accepts queue delivers =
+  gave_placed room item answer own fits parks moved admitted accepts told queue delivers =
       let r = rests_there (length desks) room before fits parks in
       let keeps = delivers_keeps slot item_slot handled s item answer before.state after.state (accepted_by before)
       (accepted_by after) desks now
@@ -679,6 +678,7 @@ module _ {H I : Type 0} (slot : H → ℕ) (item_slot : I → ℕ) (handled : H
           ),
         );
         accepted = accepts;
+        told = told;
         moved = moved;
         parked = λ is. absurd (true≢false (sym is ∙ parks));
         stays = λ is. absurd (true≢false (sym is ∙ parks));
@@ -686,20 +686,22 @@ module _ {H I : Type 0} (slot : H → ℕ) (item_slot : I → ℕ) (handled : H
       }
 
   -- either
-  pub gave_any : (room : ℕ) (item : I) (answer : Result (Unit {0}) (DataNo I)) → item_slot item ≡ s
+  pub gave_any : (room : ℕ) (item : I) (answer : Result Bool (DataNo I)) → item_slot item ≡ s
       → Fits (length desks) room (Some before)
       → after.moved ≡ before.moved → after.admitted ≡ before.admitted
       → Accepts item answer (accepted_by before) (accepted_by after)
+      → IfOk answer (λ is_parked. is_parked ≡ parks_at (Some before))
       → (parks_at (Some before) ≡ true → (now ≡ desks) × (after.state ≡ before.state)
       × QueueTakes room item answer before.queue.items after.queue.items)
       → (parks_at (Some before) ≡ false → (after.queue.items ≡ before.queue.items)
       × Delivers s item answer before.state after.state desks now)
       → Gave slot item_slot handled s room item answer (Some before) (Some after) desks now
-  gave_any room item answer own fits moved admitted accepts parked placed =
+  gave_any room item answer own fits moved admitted accepts told parked placed =
       elim (parks_at (Some before)) as (λ b. parks_at (Some before) ≡ b
       → Gave slot item_slot handled s room item answer (Some before) (Some after) desks now) [
-        | true ↦ λ e. let p = parked e in gave_parked room item answer own e moved admitted accepts p.0 p.1 p.2
-        | false ↦ λ e. let p = placed e in gave_placed room item answer own fits e moved admitted accepts p.0 p.1
+        | true ↦ λ e. let p = parked e in gave_parked room item answer own e moved admitted accepts told p.0 p.1 p.2
+        | false ↦ λ e. let p = placed e in gave_placed room item answer own fits e moved admitted accepts told p.0
+            p.1
       ] refl
 
 -- a state that isn't leaving a slice

@@ -1,5 +1,5 @@
 -- What offering an order, a move, an arrival home and an admission leave of the facts that a side keeps.
-use Rattle.std.proofs.Common.{◌≡◌, ℕ, ◌+◌, ◌-◌, ◌*◌, ◌^◌, ◌<◌, ◌≤◌, ◌⊎◌, inl, inr, Bool, true, false, true≢false}
+use Rattle.std.proofs.Common.{◌≡◌, ℕ, ◌+◌, ◌*◌, ◌^◌, ◌<◌, ◌≤◌, ◌⊎◌, inl, inr, Bool, true, false, true≢false}
 use Rattle.std.proofs.Common.{cond, List, [], ◌∷◌, ◌++◌, length, set, replicate, refl, sym, ap, ◌∙◌, subst, arith}
 use Rattle.std.proofs.Common.{length-append}
 use Rattle.std.specs.Prelude.{nat_eq, nat_lt, Option, Some, None}
@@ -28,7 +28,6 @@ use Rattle.migration.specs.Steps.{Sends, Serves, Goes, PlaceServed, ServedAt, Mo
 use Rattle.migration.specs.Steps.{Admits}
 use Rattle.worker_core.specs.BySlot.{Grown}
 use Rattle.migration.specs.Sides.{slot_at, BySlot, IsSide}
-use Rattle.worker_core.specs.Counts.{Rises}
 use Rattle.migration.specs.Words.{ServedNext}
 use Rattle.worker_core.proofs.Rising.{rises_raised}
 use Rattle.worker_core.proofs.AtDesks.{changed_sum, changed_len, homes_sum}

@@ -1,6 +1,6 @@
 -- How the slots that wait are served, one after another.
-use Rattle.std.proofs.Common.{◌≡◌, ◌≢◌, ℕ, ◌<◌, ◌⊎◌, inl, inr, true, false, cond, List, [], ◌∷◌, length, map, set}
-use Rattle.std.proofs.Common.{get_or, refl, sym, ap, ◌∙◌, subst, arith}
+use Rattle.std.proofs.Common.{◌≡◌, ◌≢◌, ℕ, ◌<◌, ◌⊎◌, inl, inr, true, false, cond, List, [], ◌∷◌, length, set}
+use Rattle.std.proofs.Common.{refl, sym, ap, ◌∙◌, subst, arith}
 use Rattle.std.specs.Prelude.{nat_eq, Option, Some, None}
 use Rattle.std.specs.List.{sum_by}
 use Rattle.std.proofs.lemmas.List.Sums.{sum_by_push, get_or-le-sum_by}
@@ -11,15 +11,12 @@ use Rattle.worker_core.specs.Desks.{Desk}
 use Rattle.worker_core.specs.Workers.{Lanes}
 use Rattle.migration.specs.declared.place.ControlPlace.{ControlPlace}
 use Rattle.migration.specs.declared.place.ControlState.TheVariants.{Front, Placed, Recall, Leaving}
-use Rattle.lane_core.specs.declared.ends.Receiver.{Receiver}
-use Rattle.lane_core.specs.Ends.{taken, empty_answers}
-use Rattle.worker_core.specs.Desks.{fulls_at, homes_of, empties_at}
+use Rattle.worker_core.specs.Desks.{fulls_at}
 use Rattle.migration.specs.Places.{place_at, is_waiting, is_waiting_at, waits_at, waits_for, hop_at, hops_of, name_at}
 use Rattle.migration.specs.Places.{names_of, wait_weight}
 use Rattle.migration.specs.Steps.{Welcomes}
 use Rattle.migration.specs.Sides.{IsSide, AllMetFull}
 use Rattle.worker_core.specs.Counts.{Rises}
-use Rattle.worker_core.specs.Homes.{HomeEnded}
 use Rattle.migration.specs.Words.{Roll, ServedNext}
 use Rattle.worker_core.proofs.Rising.{rises_then, then_rises}
 use Rattle.migration.proofs.PlaceSteps.{on, waiting_within}

@@ -1,6 +1,6 @@
 -- What one step does to the state of one slot, to its queue, and to the desks.
 use Rattle.std.specs.Prelude.{◌≡◌, ℕ, ◌+◌, ◌<◌, ◌≤◌, ◌⊎◌, Bool, true, false, List, [], ◌∷◌}
-use Rattle.std.specs.Prelude.{◌++◌, length, slice_set, Option, Some, None, Result, Ok, Err}
+use Rattle.std.specs.Prelude.{◌++◌, length, slice_set, Option, Some, None, Result, Ok, Err, IfOk}
 use Rattle.lane_core.specs.Ends.{raised}
 use Rattle.worker_core.specs.DataDesks.{DataDesk}
 use Rattle.worker_core.specs.declared.data_order.DataOrder.TheVariants.{Arrive, Item, Leave}
@@ -80,7 +80,7 @@ is_full (Full _) = true
 is_full (NoMemory _) = false
 
 -- an item goes last into a queue, where it has room; or comes back, as one too many exactly where it has none
-abbrev pub QueueTakes : {I : Type 0} → ℕ → I → Result (Unit {0}) (DataNo I) → List I → List I → Type 0
+abbrev pub QueueTakes : {I A : Type 0} → ℕ → I → Result A (DataNo I) → List I → List I → Type 0
 QueueTakes room item (Ok _) old new = (new ≡ old ++ item ∷ []) × (length old < room)
 QueueTakes room item (Err refusal) old new = (new ≡ old) × (no_item refusal ≡ item)
     × (is_full refusal ≡ true → room ≤ length old) × (is_full refusal ≡ false → length old < room)
@@ -88,22 +88,22 @@ QueueTakes room item (Err refusal) old new = (new ≡ old) × (no_item refusal �
 module _ {H I : Type 0} where
   -- an item was sent to the slice where its half is placed; or it comes back, since that lane was full or its half
   -- couldn't be sent before it
-  abbrev pub Lands : I → DataState H → Result (Unit {0}) (DataNo I) → List (DataDesk H I) → List (DataDesk H I)
-      → Type 0
+  abbrev pub Lands : {A : Type 0} → I → DataState H → Result A (DataNo I) → List (DataDesk H I)
+      → List (DataDesk H I) → Type 0
   Lands item state (Ok _) old new = (at : ℕ) × (state ≡ Placed at) × Given at (Item item) old new
   Lands item state (Err refusal) old new = (no_item refusal ≡ item) × (is_full refusal ≡ true)
       × (((at : ℕ) × (state ≡ Placed at) × Refused at old new) ⊎ ((half : H) × (to : ℕ) × (state ≡ Front half to)
       × (new ≡ old)))
 
   -- the order that its slot waits to give is offered first
-  pub record Delivers (slot : ℕ) (item : I) (answer : Result (Unit {0}) (DataNo I)) (was is : DataState H)
+  pub record Delivers {A : Type 0} (slot : ℕ) (item : I) (answer : Result A (DataNo I)) (was is : DataState H)
       (old new : List (DataDesk H I)) : Type 0 where
     pub mid : List (DataDesk H I)
     pub serves : Serves slot was is old mid
     pub lands : Lands item is answer mid new
 
 -- what is accepted once an item was given
-abbrev pub Accepts : {I : Type 0} → I → Result (Unit {0}) (DataNo I) → List I → List I → Type 0
+abbrev pub Accepts : {I A : Type 0} → I → Result A (DataNo I) → List I → List I → Type 0
 Accepts item (Ok _) old new = new ≡ old ++ item ∷ []
 Accepts item (Err refusal) old new = (new ≡ old) × (no_item refusal ≡ item)
 
@@ -124,18 +124,18 @@ module _ {H I : Type 0} where
       × (after.queue.items ≡ before.queue.items) × (after.admitted ≡ before.admitted)
       × Goes slot slice before.state after.state old new
 
-  abbrev pub DeliversPlace : ℕ → I → Result (Unit {0}) (DataNo I) → Option (DataPlace H I)
+  abbrev pub DeliversPlace : {A : Type 0} → ℕ → I → Result A (DataNo I) → Option (DataPlace H I)
       → Option (DataPlace H I) → List (DataDesk H I) → List (DataDesk H I) → Type 0
   DeliversPlace slot item answer None new_place old new = Unit {0}
   DeliversPlace slot item answer (Some before) new_place old new =
       (after : DataPlace H I) × (new_place ≡ Some after) × Delivers slot item answer before.state after.state old new
 
 -- the counts of calls and of refusals after an item was given
-abbrev pub asked_after : {I : Type 0} → Result (Unit {0}) (DataNo I) → ℕ → ℕ
+abbrev pub asked_after : {I : Type 0} → Result Bool (DataNo I) → ℕ → ℕ
 asked_after (Ok _) asked = asked + 1
 asked_after (Err refusal) asked = asked
 
-abbrev pub refused_after : {I : Type 0} → Result (Unit {0}) (DataNo I) → ℕ → ℕ
+abbrev pub refused_after : {I : Type 0} → Result Bool (DataNo I) → ℕ → ℕ
 refused_after (Ok _) refused = refused
 refused_after (Err (Full item)) refused = raised refused
 refused_after (Err (NoMemory item)) refused = refused
@@ -172,12 +172,13 @@ module _ {H I : Type 0} (slot_of : H → ℕ) (item_slot : I → ℕ) (handled :
       pub accepted : accepted_at new_place ≡ accepted_at place
       pub moves : GoesPlace slot slice place new_place old new
 
-  -- an item was given to it
-  pub record Gave (room : ℕ) (item : I) (answer : Result (Unit {0}) (DataNo I))
+  -- an item was given to it; accepted, the answer says whether it is parked
+  pub record Gave (room : ℕ) (item : I) (answer : Result Bool (DataNo I))
       (place new_place : Option (DataPlace H I)) (old new : List (DataDesk H I)) : Type 0 where
     pub keeps : PlaceKeeps slot_of item_slot handled slot 0 place new_place old new
     pub fits : Fits (length old) room place → Fits (length old) room new_place
     pub accepted : Accepts item answer (accepted_at place) (accepted_at new_place)
+    pub told : IfOk answer (λ is_parked. is_parked ≡ parks_at place)
     pub moved : moved_at new_place ≡ moved_at place
     pub parked : parks_at place ≡ true → (new ≡ old) × QueueTakes room item answer (queue_at place)
         (queue_at new_place)

@@ -1,5 +1,5 @@
 -- Parts of a side that clauses speak of.
-use Rattle.std.specs.Prelude.{◌≡◌, ◌≢◌, ℕ, ◌+◌, ◌≤◌, ◌⊎◌, Bool, List, []}
+use Rattle.std.specs.Prelude.{◌≡◌, ◌≢◌, ℕ, ◌+◌, ◌⊎◌, Bool, List, []}
 use Rattle.std.specs.Prelude.{◌∷◌, ◌++◌, Option, Some}
 use Rattle.worker_core.specs.Desks.{Desk}
 use Rattle.worker_core.specs.declared.traveller.Traveller.{Ghosts}

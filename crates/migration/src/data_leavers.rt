@@ -1,6 +1,6 @@
 //! How many slots are leaving each slice.
-ghost use Rattle.std.specs.Prelude.{◌≡◌, ◌≢◌, ◌≤◌, ◌<◌, ◌+◌, ℕ, None, length, nat_lt, is_some, slice_index_or};
-ghost use Rattle.migration.specs.DataLeavers.{Fewer, More, Shifts, is_at, one_if};
+ghost use Rattle.std.specs.Prelude.{◌≡◌, ◌≤◌, ◌<◌, ◌+◌, ℕ, None, length, nat_lt, slice_index_or};
+ghost use Rattle.migration.specs.DataLeavers.{Fewer, More, Shifts};
 
 use pc_base::SliceNo;
 

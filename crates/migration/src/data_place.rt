@@ -1,5 +1,4 @@
 //! Where the half of one slot is, as far as the front knows, and which of its items wait there.
-ghost use Rattle.std.specs.Prelude.{◌≡◌};
 
 use pc_base::{SliceNo, Slot};
 use std::collections::VecDeque;

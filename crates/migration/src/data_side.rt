@@ -232,8 +232,9 @@ impl<H: DataTraveller> DataSide<H> {
         }
     }
 
-    /// Accepts an item for its slot: into its queue where it parks, and else into the lane of its slice.
-    pub fn give<R: Wait>(&mut self, rt: &R, item: H::Item) -> Result<(), DataNo<H::Item>>
+    /// Accepts an item for its slot: into its queue where it parks, and else into the lane of its slice. The answer
+    /// says whether it is parked.
+    pub fn give<R: Wait>(&mut self, rt: &R, item: H::Item) -> Result<bool, DataNo<H::Item>>
         requires admitted { is_admitted (place_at (places_of self.old) (H.item_slot item)) ≡ true }
         requires asked { asked_of self.old < 2 ^ 48 }
 
@@ -507,22 +508,22 @@ impl<H: DataTraveller> DataSide<H> {
 }
 
 // How many calls there were after an answer of `give`.
-fn asked_now<I>(answer: &Result<(), DataNo<I>>, asked: u64) -> u64
+fn asked_now<I>(answer: &Result<bool, DataNo<I>>, asked: u64) -> u64
     requires { asked < 2 ^ 48 }
     ensures { result ≡ asked_after answer.now asked }
 {
     match answer {
-        Ok(()) => asked + 1,
+        Ok(_) => asked + 1,
         Err(_) => asked,
     }
 }
 
 // How many refusals.
-fn refused_now<I>(answer: &Result<(), DataNo<I>>, refused: u64) -> u64
+fn refused_now<I>(answer: &Result<bool, DataNo<I>>, refused: u64) -> u64
     ensures { result ≡ refused_after answer.now refused }
 {
     match answer {
-        Ok(()) => refused,
+        Ok(_) => refused,
         Err(DataNo::Full(_)) => refused.saturating_add(1),
         Err(DataNo::NoMemory(_)) => refused,
     }

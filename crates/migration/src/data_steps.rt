@@ -1,7 +1,7 @@
 //! Steps at one slot: an order is offered, an item is accepted, and a half comes home.
-ghost use Rattle.std.specs.Prelude.{◌≡◌, ◌≤◌, ◌<◌, ◌+◌, ◌^◌, true, false, ◌∷◌};
-ghost use Rattle.std.specs.Prelude.{◌++◌, ℕ, Some, None, length, vec_len, slice_set, OnOk, OnErr};
-ghost use Rattle.std.specs.Prelude.{IfErr, is_some};
+ghost use Rattle.std.specs.Prelude.{◌≡◌, ◌≤◌, ◌<◌, ◌+◌, ◌^◌, true, false};
+ghost use Rattle.std.specs.Prelude.{Some, None, length, vec_len, slice_set, OnOk, OnErr};
+ghost use Rattle.std.specs.Prelude.{IfErr, IfOk, is_some};
 ghost use Rattle.std.specs.List.{sum_by, All};
 ghost use Rattle.worker_core.specs.declared.data_order.DataOrder.TheVariants.{Arrive, Item, Leave};
 ghost use Rattle.worker_core.specs.DataOrders.{MayFollow, stands};
@@ -500,7 +500,7 @@ fn give<H: DataTraveller, R: Wait>(
     slot: Slot,
     room: usize,
     item: H::Item,
-) -> Result<(), DataNo<H::Item>>
+) -> Result<bool, DataNo<H::Item>>
     requires admitted { is_admitted place.old ≡ true }
     requires own { H.item_slot item ≡ slot }
     requires fits { Fits (length desks.old.items) room place.old }
@@ -514,7 +514,7 @@ fn give<H: DataTraveller, R: Wait>(
     }
 }
 
-// The item goes to the queue of a place, or to the slice of its half.
+// The item goes to the queue of a place, where it is parked, or to the slice of its half.
 fn given<H: DataTraveller, R: Wait>(
     rt: &R,
     desks: &mut Vec<DataDesk<H>>,
@@ -522,7 +522,7 @@ fn given<H: DataTraveller, R: Wait>(
     slot: Slot,
     room: usize,
     item: H::Item,
-) -> Result<(), DataNo<H::Item>>
+) -> Result<bool, DataNo<H::Item>>
     requires own { H.item_slot item ≡ slot }
     requires fits { Fits (length desks.old.items) room (Some place.old) }
     requires ready { IsReady (λ half. H.slot_at (H.name half)) H.item_slot slot (Some place.old) desks.old.items }
@@ -532,12 +532,19 @@ fn given<H: DataTraveller, R: Wait>(
     ensures placed { parks_at (Some place.old) ≡ false → (place.new.queue.items ≡ place.old.queue.items)
         × Delivers slot item result place.old.state place.new.state desks.old.items desks.new.items }
     ensures accepted { Accepts item result (accepted_by place.old) (accepted_by place.new) }
+    ensures told { IfOk result (λ is_parked. is_parked ≡ parks_at (Some place.old)) }
     ensures same { (place.new.moved ≡ place.old.moved) × (place.new.admitted ≡ place.old.admitted) }
 {
     if parks(place) {
-        give_parked(place, slot, room, item)
+        match give_parked(place, slot, room, item) {
+            Ok(()) => Ok(true),
+            Err(refusal) => Err(refusal),
+        }
     } else {
-        give_placed(rt, desks, place, slot, item)
+        match give_placed(rt, desks, place, slot, item) {
+            Ok(()) => Ok(false),
+            Err(refusal) => Err(refusal),
+        }
     }
 }
 
@@ -549,7 +556,7 @@ pub fn give_at<H: DataTraveller, R: Wait>(
     slot: Slot,
     room: usize,
     item: H::Item,
-) -> Result<(), DataNo<H::Item>>
+) -> Result<bool, DataNo<H::Item>>
     requires within { slot < length places.old.items }
     requires admitted { is_admitted (place_at places.old.items slot) ≡ true }
     requires own { H.item_slot item ≡ slot }

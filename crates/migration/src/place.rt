@@ -1,5 +1,4 @@
 //! Where the half of one slot is, as far as the front knows, and what is to become of it.
-ghost use Rattle.std.specs.Prelude.{◌≡◌};
 
 use pc_base::SliceNo;
 use std::snapshot::Snapshot;

@@ -10,13 +10,12 @@ use Rattle.charging_book.specs.Postings.{happening_of, IsInRange, MayAllFollow}
 use Rattle.charging_book.proofs.Steps.{lives-push, may_from-push}
 use Rattle.bearer_state.specs.declared.version.ActiveBearer.{ActiveBearer}
 use Rattle.bearer_state.specs.Version.{VersionState, IsVersion}
-use Rattle.packet_steps.specs.declared.meters.Meters.{Meters}
 use Rattle.packet_steps.specs.declared.releasing.Release.{Release}
 use Rattle.packet_steps.specs.Rows.{ForwardedRow, HeldRow}
 use Rattle.packet_steps.specs.Past.{Past, row_for, happening_for, with_row, with_held}
 use Rattle.packet_steps.specs.Policing.{passes}
 use Rattle.packet_steps.specs.Change.{has_life, bearer_of, waits, released_to, released_by, released, marks, markers, marked, learnt}
-use Rattle.packet_steps.specs.Meters.{learnt_meters, MetersStand}
+use Rattle.packet_steps.specs.Meters.{MetersState, in_use, learnt_meters, MetersStand}
 use Rattle.packet_steps.specs.Releases.{Releases}
 use Rattle.packet_steps.specs.Standing.{CountersState, StandsFor, Follows}
 use Rattle.packet_steps.proofs.BearerLemmas.{find_found}
@@ -130,12 +129,12 @@ learnt_reached counters past taken after stands follows ranges =
 -- what is brought starts as the change does
 pub release_starts : (counters : CountersState) (past : Past) (taken : ℕ) (after : VersionState) (release : Release)
     → StandsFor counters past taken → Follows past after → IsVersion after
-    → release.meters ≡ learnt_meters past.version after counters.meters
+    → in_use release.meters ≡ learnt_meters past.version after counters.meters
     → map happening_of release.postings.items ≡ marks past.version after
     → release.effects.items ≡ markers past.version after
     → Releases release past.charged (marked past after, markers past.version after)
 release_starts counters past taken after release stands follows ranges meters postings effects = record {
-  meters = subst (λ (m : Meters). MetersStand m (marked past after)) (sym meters)
+  meters = subst (λ (m : MetersState). MetersStand m (marked past after)) (sym meters)
       (learnt_stand counters.meters past after stands.meters follows ranges stands.rates);
   postings = ap (λ (more : List Happening). past.charged ++ more) postings;
   effects = effects;
@@ -158,7 +157,7 @@ postings_follow counters past taken after release stands follows ranges brought 
 -- the counters behind a new version
 pub learnt_stands : (counters new : CountersState) (past : Past) (taken : ℕ) (after : VersionState)
     (release : Release) → StandsFor counters past taken → Follows past after → IsVersion after
-    → Releases release past.charged (learnt past after) → new.meters ≡ release.meters
+    → Releases release past.charged (learnt past after) → new.meters ≡ in_use release.meters
     → book.StandsFor new.book (past.charged ++ map happening_of release.postings.items) taken
     → new.held ≡ filter (λ (row : HeldRow). waits after.bearers row.life) counters.held → new.last ≡ counters.last
     → StandsFor new (learnt past after).0 taken
@@ -166,7 +165,7 @@ learnt_stands counters new past taken after release stands follows ranges brough
     let reached = learnt_reached counters past taken after stands follows ranges in
     let start : Past × List Effect = (marked past after, markers past.version after) in
     record {
-      meters = subst (λ (m : Meters). MetersStand m (learnt past after).0) (sym meters) brought.meters;
+      meters = subst (λ (m : MetersState). MetersStand m (learnt past after).0) (sym meters) brought.meters;
       charges = subst (λ (all : List Happening). book.StandsFor new.book all taken) brought.postings charges;
       held = held ∙ ap (filter (λ (row : HeldRow). waits after.bearers row.life)) stands.held
           ∙ sym (held_all start past.held);

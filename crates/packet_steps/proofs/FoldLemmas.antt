@@ -91,10 +91,10 @@ held_all so_far (row ∷ rows) =
     ∙ ap (λ (held : List HeldRow). held ++ filter (λ (r : HeldRow). waits bearers r.life) rows) one
     ∙ append_assoc so_far.0.held (cond (waits bearers row.life) (row ∷ []) [])
     (filter (λ (r : HeldRow). waits bearers r.life) rows)
-    ∙ ap (λ (held : List HeldRow). so_far.0.held ++ held) (front (waits bearers row.life))
+    ∙ ap (λ (held : List HeldRow). so_far.0.held ++ held) (prefix (waits bearers row.life))
   where
-    front : (b : Bool) → cond b (row ∷ []) [] ++ filter (λ (r : HeldRow). waits so_far.0.version.bearers r.life) rows
+    prefix : (b : Bool) → cond b (row ∷ []) [] ++ filter (λ (r : HeldRow). waits so_far.0.version.bearers r.life) rows
         ≡ cond b (row ∷ filter (λ (r : HeldRow). waits so_far.0.version.bearers r.life) rows)
         (filter (λ (r : HeldRow). waits so_far.0.version.bearers r.life) rows)
-    front true = refl
-    front false = refl
+    prefix true = refl
+    prefix false = refl

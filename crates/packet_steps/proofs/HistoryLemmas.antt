@@ -4,16 +4,15 @@ use Rattle.std.specs.List.{Contains}
 use Rattle.std.proofs.lemmas.List.{map_push, append-nil}
 use Rattle.rate_policer.specs.declared.cost.Cost.{Cost}
 use Rattle.rate_policer.specs.Conforming.{cost_of, conforms}
-use Rattle.rate_policer.specs.Buckets.{BucketState, rate_of, last_of, full_bucket}
+use Rattle.rate_policer.specs.Buckets.{BucketState, rate_of, last_of}
 use Rattle.rate_policer.specs.Buckets as buckets
 use Rattle.bearer_state.specs.declared.version.ActiveBearer.{ActiveBearer}
 use Rattle.bearer_state.specs.Qos.{is_guaranteed}
-use Rattle.packet_steps.specs.declared.meters.Meters.{Meters}
 use Rattle.packet_steps.specs.Rows.{ForwardedRow}
 use Rattle.packet_steps.specs.Past.{Past, moment_of, row_for}
 use Rattle.packet_steps.specs.Policing.{mbr, ambr, same_way, is_of_life, is_of_rates, is_policed_with, rate_for, history_for, costs, passes}
 use Rattle.packet_steps.specs.Verdicts.{at_moment}
-use Rattle.packet_steps.specs.Meters.{bucket_of, own_meter, bucket_for, Polices, MetersStand}
+use Rattle.packet_steps.specs.Meters.{MetersState, bucket_of, own_meter, bucket_for, Polices, MetersStand}
 use Rattle.packet_steps.specs.Plans.{Tries}
 
 -- a filter and one element more
@@ -59,7 +58,7 @@ history_push past bearer up octets =
     (is_own past bearer up octets)
 
 -- the bucket of an active bearer polices it
-polices_by : (meters : Meters) (past : Past) (bearer : ActiveBearer) (up : Bool) → MetersStand meters past
+polices_by : (meters : MetersState) (past : Past) (bearer : ActiveBearer) (up : Bool) → MetersStand meters past
     → Contains past.version.bearers bearer
     → (guaranteed : Bool) → is_guaranteed bearer.qos.qci ≡ guaranteed
     → Polices (cond guaranteed (bucket_of up (own_meter meters bearer.index)) (bucket_of up meters.shared))
@@ -69,7 +68,7 @@ polices_by : (meters : Meters) (past : Past) (bearer : ActiveBearer) (up : Bool)
 polices_by meters past bearer up stands there true is = stands.own bearer up there is
 polices_by meters past bearer up stands there false is = stands.shared up
 
-pub polices : (meters : Meters) (past : Past) (bearer : ActiveBearer) (up : Bool) → MetersStand meters past
+pub polices : (meters : MetersState) (past : Past) (bearer : ActiveBearer) (up : Bool) → MetersStand meters past
     → Contains past.version.bearers bearer
     → Polices (bucket_for meters bearer up) (rate_for past.version bearer up)
     (history_for past.version bearer up past.forwarded) (moment_of past)
@@ -123,7 +122,7 @@ tries_so past bearer up at octets old new answer known late asked =
     }
 
 -- the same of the bucket in its place
-pub tried_so : (meters : Meters) (past : Past) (bearer : ActiveBearer) (up : Bool) (at octets : ℕ)
+pub tried_so : (meters : MetersState) (past : Past) (bearer : ActiveBearer) (up : Bool) (at octets : ℕ)
     (old new : BucketState) (answer : Bool) → old ≡ bucket_for meters bearer up
     → MetersStand meters past → Contains past.version.bearers bearer → moment_of past ≤ at
     → Asked old new at octets answer

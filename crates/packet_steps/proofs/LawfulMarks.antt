@@ -40,7 +40,7 @@ all_may-append before [] ys first second = rw append-nil at second
 all_may-append before (x ∷ xs) ys first second = (
   first.0,
   all_may-append (before ++ x ∷ []) xs ys first.1
-      (subst (λ (front : List Happening). AllMay front ys) (sym (append_assoc before (x ∷ []) xs)) second),
+      (subst (λ (prefix : List Happening). AllMay prefix ys) (sym (append_assoc before (x ∷ []) xs)) second),
 )
 
 each-append : {X : Type 0} (P : X → Type 0) (xs ys : List X) → AllByRecursion P xs → AllByRecursion P ys

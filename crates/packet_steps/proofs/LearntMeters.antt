@@ -12,18 +12,17 @@ use Rattle.bearer_state.specs.declared.qos.Qos.{Qos}
 use Rattle.bearer_state.specs.Qos.{is_guaranteed}
 use Rattle.bearer_state.specs.Version.{VersionState, IsVersion, IsActiveBefore}
 use Rattle.packet_steps.specs.declared.meters.Meter.{Meter}
-use Rattle.packet_steps.specs.declared.meters.Meters.{Meters}
 use Rattle.packet_steps.specs.Rows.{ForwardedRow}
 use Rattle.packet_steps.specs.Past.{Past, moment_of}
 use Rattle.packet_steps.specs.Policing.{mbr, ambr, same_way, is_of_life, is_of_rates}
 use Rattle.packet_steps.specs.Change.{has_life, marked}
-use Rattle.packet_steps.specs.Meters.{bucket_of, new_meter, own_meter, begins_guaranteed, with_begun, learnt_meters, Polices, MetersStand}
+use Rattle.packet_steps.specs.Meters.{MetersState, bucket_of, new_meter, own_meter, begins_guaranteed, with_begun, learnt_meters, Polices, MetersStand}
 use Rattle.packet_steps.specs.Standing.{Follows}
 use Rattle.packet_steps.proofs.BearerLemmas.{none_in_nil, of_cons, first_in, later_in, each_of, index_in_range}
 use Rattle.packet_steps.proofs.NewLemmas.{full_polices}
 
 -- one bearer leaves the shared meter, the number of meters, and the meters of other indices
-begun_shared : (before : VersionState) (meters : Meters) (bearer : ActiveBearer)
+begun_shared : (before : VersionState) (meters : MetersState) (bearer : ActiveBearer)
     → (with_begun before meters bearer).shared ≡ meters.shared
 begun_shared before meters bearer =
     elim (begins_guaranteed before bearer) as
@@ -35,7 +34,7 @@ begun_shared before meters bearer =
       | false ↦ refl
     ]
 
-begun_sized : (before : VersionState) (meters : Meters) (bearer : ActiveBearer)
+begun_sized : (before : VersionState) (meters : MetersState) (bearer : ActiveBearer)
     → length (with_begun before meters bearer).own ≡ length meters.own
 begun_sized before meters bearer =
     elim (begins_guaranteed before bearer) as
@@ -47,7 +46,7 @@ begun_sized before meters bearer =
       | false ↦ refl
     ]
 
-begun_other : (before : VersionState) (meters : Meters) (bearer : ActiveBearer) (index : ℕ) → index ≢ bearer.index
+begun_other : (before : VersionState) (meters : MetersState) (bearer : ActiveBearer) (index : ℕ) → index ≢ bearer.index
     → own_meter (with_begun before meters bearer) index ≡ own_meter meters index
 begun_other before meters bearer index apart =
     elim (begins_guaranteed before bearer) as
@@ -60,19 +59,19 @@ begun_other before meters bearer index apart =
     ]
 
 -- so do all of them
-all_shared : (before : VersionState) (meters : Meters) (bearers : List ActiveBearer)
+all_shared : (before : VersionState) (meters : MetersState) (bearers : List ActiveBearer)
     → (fold (with_begun before) meters bearers).shared ≡ meters.shared
 all_shared before meters [] = refl
 all_shared before meters (b ∷ bearers) = all_shared before (with_begun before meters b) bearers
     ∙ begun_shared before meters b
 
-all_sized : (before : VersionState) (meters : Meters) (bearers : List ActiveBearer)
+all_sized : (before : VersionState) (meters : MetersState) (bearers : List ActiveBearer)
     → length (fold (with_begun before) meters bearers).own ≡ length meters.own
 all_sized before meters [] = refl
 all_sized before meters (b ∷ bearers) = all_sized before (with_begun before meters b) bearers
     ∙ begun_sized before meters b
 
-all_other : (before : VersionState) (meters : Meters) (bearers : List ActiveBearer) (index : ℕ)
+all_other : (before : VersionState) (meters : MetersState) (bearers : List ActiveBearer) (index : ℕ)
     → ((c : ActiveBearer) → Contains bearers c → index ≢ c.index)
     → own_meter (fold (with_begun before) meters bearers) index ≡ own_meter meters index
 all_other before meters [] index apart = refl
@@ -81,11 +80,11 @@ all_other before meters (b ∷ bearers) index apart =
     ∙ begun_other before meters b index (apart b (first_in b bearers))
 
 -- the meter of a bearer is new where it begins, and else the one before
-abbrev own_then : VersionState → Meters → ActiveBearer → Meter
+abbrev own_then : VersionState → MetersState → ActiveBearer → Meter
 own_then before meters c = cond (begins_guaranteed before c) (new_meter c.qos.mbr_up c.qos.mbr_down)
     (own_meter meters c.index)
 
-begun_own : (before : VersionState) (meters : Meters) (c : ActiveBearer) → c.index < length meters.own
+begun_own : (before : VersionState) (meters : MetersState) (c : ActiveBearer) → c.index < length meters.own
     → own_meter (with_begun before meters c) c.index ≡ own_then before meters c
 begun_own before meters c within =
     elim (begins_guaranteed before c) as
@@ -98,7 +97,7 @@ begun_own before meters c within =
       | false ↦ refl
     ]
 
-all_own : (before : VersionState) (meters : Meters) (bearers : List ActiveBearer) (c : ActiveBearer)
+all_own : (before : VersionState) (meters : MetersState) (bearers : List ActiveBearer) (c : ActiveBearer)
     → EachPair IsActiveBefore bearers → Contains bearers c
     → c.index < length meters.own
     → own_meter (fold (with_begun before) meters bearers) c.index ≡ own_then before meters c
@@ -189,7 +188,7 @@ new_own : (up : Bool) (bearer : ActiveBearer) (moment : ℕ)
 new_own true bearer moment = full_polices bearer.qos.mbr_up bearer.qos.mbr_down moment true
 new_own false bearer moment = full_polices bearer.qos.mbr_up bearer.qos.mbr_down moment false
 
-shared_by : (meters : Meters) (past : Past) (after : VersionState) (up risen : Bool) → MetersStand meters past
+shared_by : (meters : MetersState) (past : Past) (after : VersionState) (up risen : Bool) → MetersStand meters past
     → Follows past after
     → All (λ (row : ForwardedRow). row.rates ≤ past.version.rates) past.forwarded
     → nat_lt past.version.rates after.rates ≡ risen
@@ -216,7 +215,7 @@ shared_by meters past after up false stands follows rates is =
     still : nat_lt past.version.rates after.rates ≡ false → past.version.rates ≡ after.rates
     still fails = let least = follows.rates_rise in grind (arith, nat_tests)
 
-own_by : (meters : Meters) (past : Past) (after : VersionState) (c : ActiveBearer) (up begins : Bool)
+own_by : (meters : MetersState) (past : Past) (after : VersionState) (c : ActiveBearer) (up begins : Bool)
     → MetersStand meters past → Follows past after
     → Contains after.bearers c → is_guaranteed c.qos.qci ≡ true → begins_guaranteed past.version c ≡ begins
     → Polices (bucket_of up (cond begins (new_meter c.qos.mbr_up c.qos.mbr_down) (own_meter meters c.index)))
@@ -249,7 +248,7 @@ own_by meters past after c up false stands follows there guaranteed is =
     (stands.own b up found.there was_guaranteed)))
 
 -- the meters at a new version
-pub learnt_stand : (meters : Meters) (past : Past) (after : VersionState) → MetersStand meters past
+pub learnt_stand : (meters : MetersState) (past : Past) (after : VersionState) → MetersStand meters past
     → Follows past after → IsVersion after
     → All (λ (row : ForwardedRow). row.rates ≤ past.version.rates) past.forwarded
     → MetersStand (learnt_meters past.version after meters) (marked past after)

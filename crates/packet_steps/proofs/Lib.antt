@@ -3,6 +3,7 @@ pub mod ListLemmas
 pub mod HistoryLemmas
 pub mod BearerLemmas
 pub mod MeterLemmas
+pub mod OwnMeters
 pub mod NewLemmas
 pub mod StandingLemmas
 pub mod PacketLemmas

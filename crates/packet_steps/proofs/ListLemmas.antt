@@ -23,7 +23,7 @@ pub map_map : {X Y Z : Type 0} (g : Y → Z) (f : X → Y) (xs : List X) → map
 map_map g f [] = refl
 map_map g f (x ∷ xs) = ap (λ ys. g (f x) ∷ ys) (map_map g f xs)
 
--- what stands behind the same front is the same
-pub same_behind : {X : Type 0} (front xs ys : List X) → front ++ xs ≡ front ++ ys → xs ≡ ys
+-- what stands behind the same prefix is the same
+pub same_behind : {X : Type 0} (prefix xs ys : List X) → prefix ++ xs ≡ prefix ++ ys → xs ≡ ys
 same_behind [] xs ys same = same
-same_behind (x ∷ front) xs ys same = same_behind front xs ys (let rest : front ++ xs ≡ front ++ ys = cc in rest)
+same_behind (x ∷ prefix) xs ys same = same_behind prefix xs ys (let rest : prefix ++ xs ≡ prefix ++ ys = cc in rest)

@@ -9,12 +9,11 @@ use Rattle.bearer_state.specs.declared.version.ActiveBearer.{ActiveBearer}
 use Rattle.bearer_state.specs.Qos.{is_guaranteed}
 use Rattle.bearer_state.specs.Version.{IsVersion}
 use Rattle.packet_steps.specs.declared.meters.Meter.{Meter}
-use Rattle.packet_steps.specs.declared.meters.Meters.{Meters}
 use Rattle.packet_steps.specs.Rows.{ForwardedRow}
 use Rattle.packet_steps.specs.Past.{Past, moment_of, row_for, with_row}
 use Rattle.packet_steps.specs.Policing.{mbr, ambr, same_way, is_of_life, is_of_rates}
 use Rattle.packet_steps.specs.Verdicts.{at_moment}
-use Rattle.packet_steps.specs.Meters.{bucket_of, with_bucket, new_meter, own_meter, put_bucket, Polices, MetersStand}
+use Rattle.packet_steps.specs.Meters.{MetersState, bucket_of, with_bucket, new_meter, own_meter, put_bucket, Polices, MetersStand}
 use Rattle.packet_steps.specs.Plans.{PolicesBehind, PolicesStill}
 use Rattle.packet_steps.proofs.HistoryLemmas.{filter_without}
 use Rattle.packet_steps.proofs.BearerLemmas.{same_by_index, same_by_life, index_in_range}
@@ -24,7 +23,7 @@ pub polices_later : (b : BucketState) (rate : ℕ) (rows : List ForwardedRow) (m
     → Polices b rate rows moment → Polices b rate rows later
 polices_later b rate rows moment later late known = record { rate_is = known.rate_is; stands = known.stands; asked = le_trans known.asked late }
 
-pub meters_later : (meters : Meters) (past : Past) (at : ℕ) → MetersStand meters past → moment_of past ≤ at
+pub meters_later : (meters : MetersState) (past : Past) (at : ℕ) → MetersStand meters past → moment_of past ≤ at
     → MetersStand meters (at_moment past at)
 meters_later meters past at stands late = record {
   sized = stands.sized;
@@ -62,11 +61,11 @@ polices_without : (b : BucketState) (rate : ℕ) (p : ForwardedRow → Bool) (ro
 polices_without b rate p rows row moment apart known =
     subst (λ (kept : List ForwardedRow). Polices b rate kept moment) (sym (filter_without p rows row apart)) known
 
-abbrev set_own : Meters → ActiveBearer → Bool → BucketState → List Meter
+abbrev set_own : MetersState → ActiveBearer → Bool → BucketState → List Meter
 set_own meters bearer up b = set meters.own bearer.index (with_bucket up b (own_meter meters bearer.index))
 
 -- the row of a bearer with a guaranteed rate, and of another one
-guaranteed_put : (meters : Meters) (past : Past) (bearer : ActiveBearer) (up : Bool) (octets : ℕ) (b : BucketState)
+guaranteed_put : (meters : MetersState) (past : Past) (bearer : ActiveBearer) (up : Bool) (octets : ℕ) (b : BucketState)
     → MetersStand meters past → IsVersion past.version → Contains past.version.bearers bearer
     → is_guaranteed bearer.qos.qci ≡ true
     → Polices b (mbr up bearer.qos)
@@ -114,13 +113,13 @@ guaranteed_put meters past bearer up octets b stands ranges there guaranteed beh
     row : ForwardedRow
     row = row_for past bearer up octets
 
-    put : Meters
+    put : MetersState
     put = record meters { own = set_own meters bearer up b }
 
     within : bearer.index < length meters.own
     within = subst (λ n. bearer.index < n) (sym stands.sized) (index_in_range past.version bearer ranges there)
 
-shared_put : (meters : Meters) (past : Past) (bearer : ActiveBearer) (up : Bool) (octets : ℕ) (b : BucketState)
+shared_put : (meters : MetersState) (past : Past) (bearer : ActiveBearer) (up : Bool) (octets : ℕ) (b : BucketState)
     → MetersStand meters past → IsVersion past.version → Contains past.version.bearers bearer
     → is_guaranteed bearer.qos.qci ≡ false
     → Polices b (ambr up past.version)
@@ -154,7 +153,7 @@ shared_put meters past bearer up octets b stands ranges there shares behind = re
     row : ForwardedRow
     row = row_for past bearer up octets
 
-put_by : (meters : Meters) (past : Past) (bearer : ActiveBearer) (up : Bool) (octets : ℕ) (b : BucketState)
+put_by : (meters : MetersState) (past : Past) (bearer : ActiveBearer) (up : Bool) (octets : ℕ) (b : BucketState)
     (guaranteed : Bool)
     → is_guaranteed bearer.qos.qci ≡ guaranteed → MetersStand meters past → IsVersion past.version
     → Contains past.version.bearers bearer
@@ -168,7 +167,7 @@ put_by meters past bearer up octets b true is stands ranges there behind = guara
 put_by meters past bearer up octets b false is stands ranges there behind = shared_put meters past bearer up octets b stands ranges there is behind
 
 -- the meters with a bucket put in its place
-pub put_stands : (meters : Meters) (past : Past) (bearer : ActiveBearer) (up : Bool) (octets : ℕ) (b : BucketState)
+pub put_stands : (meters : MetersState) (past : Past) (bearer : ActiveBearer) (up : Bool) (octets : ℕ) (b : BucketState)
     → MetersStand meters past → IsVersion past.version → Contains past.version.bearers bearer
     → PolicesBehind past bearer up octets b
     → MetersStand (put_bucket meters bearer up b) (with_row past (row_for past bearer up octets))
@@ -177,7 +176,7 @@ put_stands meters past bearer up octets b stands ranges there behind =
 
 -- ---- octets that don't pass
 
-guaranteed_still : (meters : Meters) (past : Past) (bearer : ActiveBearer) (up : Bool) (b : BucketState)
+guaranteed_still : (meters : MetersState) (past : Past) (bearer : ActiveBearer) (up : Bool) (b : BucketState)
     → MetersStand meters past → IsVersion past.version → Contains past.version.bearers bearer
     → is_guaranteed bearer.qos.qci ≡ true
     → Polices b (mbr up bearer.qos) (filter (is_of_life bearer.life up) past.forwarded) (moment_of past)
@@ -213,13 +212,13 @@ guaranteed_still meters past bearer up b stands ranges there guaranteed still = 
       ];
 }
   where
-    put : Meters
+    put : MetersState
     put = record meters { own = set_own meters bearer up b }
 
     within : bearer.index < length meters.own
     within = subst (λ n. bearer.index < n) (sym stands.sized) (index_in_range past.version bearer ranges there)
 
-shared_still : (meters : Meters) (past : Past) (up : Bool) (b : BucketState) → MetersStand meters past
+shared_still : (meters : MetersState) (past : Past) (up : Bool) (b : BucketState) → MetersStand meters past
     → Polices b (ambr up past.version) (filter (is_of_rates past.version.rates up) past.forwarded) (moment_of past)
     → MetersStand (record meters { shared = with_bucket up b meters.shared }) past
 shared_still meters past up b stands still = record {
@@ -236,7 +235,7 @@ shared_still meters past up b stands still = record {
   own = stands.own;
 }
 
-still_by : (meters : Meters) (past : Past) (bearer : ActiveBearer) (up : Bool) (b : BucketState) (guaranteed : Bool)
+still_by : (meters : MetersState) (past : Past) (bearer : ActiveBearer) (up : Bool) (b : BucketState) (guaranteed : Bool)
     → is_guaranteed bearer.qos.qci ≡ guaranteed → MetersStand meters past → IsVersion past.version
     → Contains past.version.bearers bearer
     → Polices b (cond guaranteed (mbr up bearer.qos) (ambr up past.version))
@@ -249,7 +248,7 @@ still_by meters past bearer up b true is stands ranges there still =
 still_by meters past bearer up b false is stands ranges there still = shared_still meters past up b stands still
 
 -- the meters with a bucket put back that let nothing through
-pub put_still : (meters : Meters) (past : Past) (bearer : ActiveBearer) (up : Bool) (b : BucketState)
+pub put_still : (meters : MetersState) (past : Past) (bearer : ActiveBearer) (up : Bool) (b : BucketState)
     → MetersStand meters past → IsVersion past.version → Contains past.version.bearers bearer
     → PolicesStill past bearer up b
     → MetersStand (put_bucket meters bearer up b) past

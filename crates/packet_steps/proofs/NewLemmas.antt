@@ -1,5 +1,5 @@
 -- New counters represent the past before the first event.
-use Rattle.std.proofs.Common.{◌≡◌, ◌≤◌, ℕ, Bool, true, false, List, [], ◌∷◌, refl, sym, subst, None, arith}
+use Rattle.std.proofs.Common.{◌≡◌, ◌≤◌, ℕ, Bool, true, false, List, [], length, refl, sym, ap, subst, None, arith}
 use Rattle.std.proofs.lemmas.List.Elements.{All-nil}
 use Rattle.charging_book.specs.Accounts as book
 use Rattle.rate_policer.proofs.Standing.{stands_full}
@@ -7,7 +7,7 @@ use Rattle.packet_steps.specs.declared.meters.Meter.{Meter}
 use Rattle.packet_steps.specs.Rows.{ForwardedRow, HeldRow}
 use Rattle.packet_steps.specs.Past.{new_past}
 use Rattle.packet_steps.specs.Policing.{ambr}
-use Rattle.packet_steps.specs.Meters.{bucket_of, new_meter, Polices}
+use Rattle.packet_steps.specs.Meters.{MetersState, unused, no_meters, bucket_of, new_meter, Polices}
 use Rattle.packet_steps.specs.Parts.{new_counters}
 use Rattle.packet_steps.specs.Standing.{CountersState, StandsFor}
 
@@ -25,17 +25,17 @@ none_polices : (slot : ℕ) (up : Bool) → Polices (bucket_of up (new_meter 0 0
 none_polices slot true = full_polices 0 0 0 true
 none_polices slot false = full_polices 0 0 0 false
 
-pub new_stands : (none : Meter) (accounts : book.Accounts) (held : List HeldRow) (slot : ℕ) → none ≡ new_meter 0 0
-    → book.StandsFor accounts [] 0 → held ≡ []
+pub new_stands : (meters : MetersState) (accounts : book.Accounts) (held : List HeldRow) (slot : ℕ)
+    → meters.shared ≡ unused → meters.own ≡ no_meters → book.StandsFor accounts [] 0 → held ≡ []
     → StandsFor (record {
-      meters = record { shared = none; own = none ∷ none ∷ none ∷ none ∷ none ∷ none ∷ none ∷ none ∷ none ∷ none ∷ none ∷ [] };
+      meters = meters;
       book = accounts;
       held = held;
       last = None;
     }) (new_past slot) 0
-new_stands none accounts held slot is charges nothing = record {
+new_stands meters accounts held slot is own charges nothing = record {
   meters = record {
-    sized = refl;
+    sized = ap length own;
     shared = λ up. subst (λ (meter : Meter). Polices (bucket_of up meter) (ambr up (new_past slot).version) [] 0)
         (sym is) (none_polices slot up);
     own = λ bearer up there. absurd (omega (arith, there.1));
@@ -58,15 +58,16 @@ new_stands none accounts held slot is charges nothing = record {
 }
 
 -- they are the ones that have nothing
-abbrev counters_with : Meter → book.Accounts → List HeldRow → CountersState
-counters_with none accounts held = record {
-  meters = record { shared = none; own = none ∷ none ∷ none ∷ none ∷ none ∷ none ∷ none ∷ none ∷ none ∷ none ∷ none ∷ [] };
+abbrev counters_with : MetersState → book.Accounts → List HeldRow → CountersState
+counters_with meters accounts held = record {
+  meters = meters;
   book = accounts;
   held = held;
   last = None;
 }
 
-pub new_is : (none : Meter) (accounts : book.Accounts) (held : List HeldRow) → none ≡ new_meter 0 0
-    → book.StandsFor accounts [] 0 → held ≡ [] → counters_with none accounts held ≡ new_counters
-new_is none accounts held is charges nothing = λ i. counters_with (is i)
+pub new_is : (meters : MetersState) (accounts : book.Accounts) (held : List HeldRow) → meters.shared ≡ unused
+    → meters.own ≡ no_meters → book.StandsFor accounts [] 0 → held ≡ []
+    → counters_with meters accounts held ≡ new_counters
+new_is meters accounts held is own charges nothing = λ i. counters_with (record { shared = is i; own = own i })
     (record { opens = charges.opens i; moments = charges.moments i; rows = charges.rows i }) (nothing i)

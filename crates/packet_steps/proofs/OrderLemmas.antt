@@ -3,9 +3,6 @@ use Rattle.std.proofs.Common.{◌≡◌, ℕ, ◌≤◌, ◌==◌, ◌&&◌, nat
 use Rattle.std.proofs.lemmas.Bool.{eqb-true}
 use Rattle.std.proofs.lemmas.Bool.Decides.{nat_tests}
 use Rattle.packet_steps.specs.Rows.{HeldRow, in_order, held_in_order}
-use Rattle.bearer_state.specs.declared.version.ActiveBearer.{ActiveBearer}
-use Rattle.bearer_state.specs.Version.{VersionState}
-use Rattle.packet_steps.specs.Parts.{PartsState, buckets_fit, were_asked, all_may_wait, held_fit, pieces_fit, may_fit}
 use Rattle.packet_steps.proofs.PartLemmas.{both}
 
 both_are : (a b : Bool) → a ≡ true → b ≡ true → (a && b) ≡ true
@@ -100,21 +97,3 @@ pub held_kept : (p : HeldRow → Bool) (last : Option ℕ) (rows : List HeldRow)
 held_kept p None rows ordered =
     ap (λ (held : List HeldRow). length (filter p held) == 0) (none_held rows ordered)
 held_kept p (Some last) rows ordered = order_kept p 0 last rows ordered
-
--- what fits a version is in order
-fits_ordered : (last : Option ℕ) (bearers : List ActiveBearer) (rows : List HeldRow)
-    → held_fit last bearers rows ≡ true → held_in_order last rows ≡ true
-fits_ordered None bearers rows fits = fits
-fits_ordered (Some last) bearers rows fits =
-    let waiting = both (nat_le (length rows) 16) (all_may_wait bearers rows && in_order 0 last rows) fits in
-    (both (all_may_wait bearers rows) (in_order 0 last rows) waiting.1).1
-
-pub parts_ordered : (version : VersionState) (parts : PartsState) → may_fit version parts ≡ true
-    → held_in_order parts.last parts.held ≡ true
-parts_ordered version parts fits =
-    let held = held_fit parts.last version.bearers parts.held in
-    let rest = held && pieces_fit version.bearers parts.pieces in
-    let asked = both (buckets_fit version parts.buckets) (were_asked parts.last parts.buckets && rest) fits in
-    let waiting = both (were_asked parts.last parts.buckets) rest asked.1 in
-    fits_ordered parts.last version.bearers parts.held
-    (both held (pieces_fit version.bearers parts.pieces) waiting.1).0

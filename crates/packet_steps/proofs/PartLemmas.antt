@@ -14,11 +14,10 @@ use Rattle.bearer_state.specs.declared.version.ActiveBearer.{ActiveBearer}
 use Rattle.bearer_state.specs.Qos.{is_guaranteed}
 use Rattle.bearer_state.specs.Version.{VersionState, IsVersion, IsActiveBearer, IsActiveBefore}
 use Rattle.packet_steps.specs.declared.meters.Meter.{Meter}
-use Rattle.packet_steps.specs.declared.meters.Meters.{Meters}
 use Rattle.packet_steps.specs.Past.{moment_of}
 use Rattle.packet_steps.specs.Policing.{mbr, ambr, is_of_life, is_of_rates}
-use Rattle.packet_steps.specs.Meters.{bucket_of, own_meter, Polices}
-use Rattle.packet_steps.specs.Parts.{PartsState, own_buckets, buckets_in, first_fit, own_fit, buckets_fit, were_asked, held_fit, pieces_fit, may_fit, unused, first_meter, own_with, no_meters, PartsRepresentTheSame}
+use Rattle.packet_steps.specs.Meters.{MetersState, unused, no_meters, bucket_of, own_meter, Polices}
+use Rattle.packet_steps.specs.Parts.{PartsState, own_buckets, buckets_in, first_fit, own_fit, buckets_fit, were_asked, held_fit, pieces_fit, may_fit, first_meter, own_with, PartsRepresentTheSame}
 use Rattle.packet_steps.proofs.BearerLemmas.{none_in_nil, of_cons, first_in, later_in, each_of}
 
 -- a bearer of the list takes two buckets, or none
@@ -65,15 +64,15 @@ abbrev fit_with : Bool → ActiveBearer → List ActiveBearer → List BucketSta
 fit_with g b bearers buckets =
     cond g (first_fit b.qos.mbr_up b.qos.mbr_down buckets && own_fit bearers (drop 2 buckets)) (own_fit bearers buckets)
 
-abbrev buckets_with : Bool → Meters → ActiveBearer → List BucketState
+abbrev buckets_with : Bool → MetersState → ActiveBearer → List BucketState
 buckets_with g m b = cond g ((own_meter m b.index).up ∷ (own_meter m b.index).down ∷ []) []
 
 -- the meters have the buckets that their bearers took
-abbrev Takes : Meters → List ActiveBearer → Type 0
+abbrev Takes : MetersState → List ActiveBearer → Type 0
 Takes m bearers = (own : List Meter) (buckets : List BucketState) → length own ≡ 11 → own_fit bearers buckets ≡ true
     → m.own ≡ own_with own bearers buckets → flat_map (own_buckets m) bearers ≡ buckets
 
-one_taken : (g : Bool) (m : Meters) (b : ActiveBearer) (bearers : List ActiveBearer) (own : List Meter)
+one_taken : (g : Bool) (m : MetersState) (b : ActiveBearer) (bearers : List ActiveBearer) (own : List Meter)
     (buckets : List BucketState) → is_guaranteed b.qos.qci ≡ g
     → b.index ≤ 10 → AllByRecursion (IsActiveBefore b) bearers → Takes m bearers → length own ≡ 11
     → own_fit (b ∷ bearers) buckets ≡ true → m.own ≡ own_with own (b ∷ bearers) buckets
@@ -100,7 +99,7 @@ one_taken false m b bearers own buckets free low behind takes sized fits is =
     ∙ takes own buckets sized (ap (λ g. fit_with g b bearers buckets) (sym free) ∙ fits)
     (is ∙ ap (λ g. taking g own b bearers buckets) free)
 
-own_taken : (m : Meters) (bearers : List ActiveBearer) → EachPair IsActiveBefore bearers
+own_taken : (m : MetersState) (bearers : List ActiveBearer) → EachPair IsActiveBefore bearers
     → AllByRecursion IsActiveBearer bearers → Takes m bearers
 own_taken m [] pairs each own [] sized fits is = refl
 own_taken m [] pairs each own (first ∷ others) sized fits is = absurd (false≢true fits)
@@ -108,7 +107,7 @@ own_taken m (b ∷ bearers) pairs each own buckets sized fits is =
     one_taken (is_guaranteed b.qos.qci) m b bearers own buckets refl each.0.index pairs.0
     (own_taken m bearers pairs.1 each.1) sized fits is
 
-pub meters_taken : (version : VersionState) (buckets : List BucketState) (m : Meters) → IsVersion version
+pub meters_taken : (version : VersionState) (buckets : List BucketState) (m : MetersState) → IsVersion version
     → buckets_fit version buckets ≡ true → m.shared ≡ first_meter buckets
     → m.own ≡ own_with no_meters version.bearers (drop 2 buckets)
     → (buckets ≡ buckets_in version.bearers m) × (length m.own ≡ 11)
@@ -145,7 +144,7 @@ pieces_made lent pieces made b same told is =
 same_meters : (x y : Meter) → x.up ≡ y.up → x.down ≡ y.down → x ≡ y
 same_meters x y ups downs = λ i. record { up = ups i; down = downs i }
 
-same_first : (g : Bool) (m n : Meters) (b : ActiveBearer) (bearers : List ActiveBearer) (c : ActiveBearer)
+same_first : (g : Bool) (m n : MetersState) (b : ActiveBearer) (bearers : List ActiveBearer) (c : ActiveBearer)
     → is_guaranteed b.qos.qci ≡ g → Contains (b ∷ bearers) c → is_guaranteed c.qos.qci ≡ true
     → flat_map (own_buckets m) (b ∷ bearers) ≡ flat_map (own_buckets n) (b ∷ bearers)
     → (Contains bearers c → flat_map (own_buckets m) bearers ≡ flat_map (own_buckets n) bearers
@@ -173,7 +172,7 @@ same_first false m n b bearers c is there guaranteed same others =
       | inr behind ↦ others behind rest
     ]
 
-same_own : (m n : Meters) (bearers : List ActiveBearer) (c : ActiveBearer) → Contains bearers c
+same_own : (m n : MetersState) (bearers : List ActiveBearer) (c : ActiveBearer) → Contains bearers c
     → is_guaranteed c.qos.qci ≡ true → flat_map (own_buckets m) bearers ≡ flat_map (own_buckets n) bearers
     → own_meter m c.index ≡ own_meter n c.index
 same_own m n [] c there guaranteed same = absurd (none_in_nil c there)

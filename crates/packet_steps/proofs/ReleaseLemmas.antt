@@ -13,7 +13,6 @@ use Rattle.charging_book.specs.declared.accounts.posting.Posting.TheVariants.{Pa
 use Rattle.rate_policer.specs.Buckets.{BucketState}
 use Rattle.bearer_state.specs.declared.version.ActiveBearer.{ActiveBearer}
 use Rattle.bearer_state.specs.Version.{IsVersion}
-use Rattle.packet_steps.specs.declared.meters.Meters.{Meters}
 use Rattle.packet_steps.specs.declared.releasing.Release.{Release}
 use Rattle.packet_steps.specs.Rows.{HeldRow}
 use Rattle.packet_steps.specs.Messages.{gpdu}
@@ -21,7 +20,7 @@ use Rattle.packet_steps.specs.Past.{Past, moment_of, row_for, with_row, with_hel
 use Rattle.packet_steps.specs.Policing.{passes}
 use Rattle.packet_steps.specs.Verdicts.{at_moment}
 use Rattle.packet_steps.specs.Change.{fated, released_to}
-use Rattle.packet_steps.specs.Meters.{put_bucket, MetersStand}
+use Rattle.packet_steps.specs.Meters.{MetersState, in_use, put_bucket, MetersStand}
 use Rattle.packet_steps.specs.Plans.{Tries}
 use Rattle.packet_steps.specs.Releases.{Releases}
 use Rattle.packet_steps.proofs.MeterLemmas.{put_stands, put_still}
@@ -38,11 +37,11 @@ tries_now past bearer up at octets tried now known =
 -- one effect more
 pub told_more : (old new : Release) (before : List Happening) (so_far : Past × List Effect) (row : HeldRow)
     (fate_ : Fate) → Releases old before so_far
-    → new.meters ≡ old.meters → new.postings.items ≡ old.postings.items
+    → in_use new.meters ≡ in_use old.meters → new.postings.items ≡ old.postings.items
     → new.effects.items ≡ old.effects.items ++ effect.Fate row.packet.number fate_ ∷ []
     → Releases new before (fated so_far row fate_)
 told_more old new before so_far row fate_ known meters postings effects = record {
-  meters = subst (λ (m : Meters). MetersStand m so_far.0) (sym meters) known.meters;
+  meters = subst (λ (m : MetersState). MetersStand m so_far.0) (sym meters) known.meters;
   postings = ap (λ ps. before ++ map happening_of ps) postings ∙ known.postings;
   effects = effects ∙ ap (λ es. es ++ effect.Fate row.packet.number fate_ ∷ []) known.effects;
 }
@@ -63,7 +62,7 @@ pub policed_more : (old new : Release) (before : List Happening) (so_far : Past 
     → octets ≡ row.packet.octets → Releases old before so_far → IsVersion so_far.0.version
     → Contains so_far.0.version.bearers bearer → moment_of so_far.0 ≡ at
     → Tries (at_moment so_far.0 at) bearer false (length octets) tried → tried.0 ≡ false
-    → new.meters ≡ put_bucket old.meters bearer false tried.1 → new.postings.items ≡ old.postings.items
+    → in_use new.meters ≡ put_bucket (in_use old.meters) bearer false tried.1 → new.postings.items ≡ old.postings.items
     → new.effects.items ≡ old.effects.items ++ effect.Fate row.packet.number (fate.Policed row.life) ∷ []
     → Releases new before (released_to so_far row bearer (Some peer))
 policed_more old new before so_far row bearer peer tried at octets is known ranges there now tries kept_back meters postings
@@ -76,8 +75,8 @@ policed_more old new before so_far row bearer peer tried at octets is known rang
     (fate.Down row.life peer.addr (gpdu peer row.packet.octets)))
     (fated so_far row (fate.Policed row.life)) in
     subst (λ passed. Releases new before (outcome passed)) (sym fails) (record {
-      meters = subst (λ (m : Meters). MetersStand m so_far.0) (sym meters)
-          (put_still old.meters so_far.0 bearer false tried.1 known.meters ranges there (here.still kept_back));
+      meters = subst (λ (m : MetersState). MetersStand m so_far.0) (sym meters)
+          (put_still (in_use old.meters) so_far.0 bearer false tried.1 known.meters ranges there (here.still kept_back));
       postings = ap (λ ps. before ++ map happening_of ps) postings ∙ known.postings;
       effects = effects ∙ ap (λ es. es ++ effect.Fate row.packet.number (fate.Policed row.life) ∷ []) known.effects;
     })
@@ -88,7 +87,7 @@ pub passed_more : (old new : Release) (before : List Happening) (so_far : Past �
     → Releases old before so_far → IsVersion so_far.0.version → Contains so_far.0.version.bearers bearer
     → moment_of so_far.0 ≡ at
     → Tries (at_moment so_far.0 at) bearer false (length row.packet.octets) tried → tried.0 ≡ true
-    → new.meters ≡ put_bucket old.meters bearer false tried.1
+    → in_use new.meters ≡ put_bucket (in_use old.meters) bearer false tried.1
     → new.postings.items ≡ old.postings.items ++ Packet bearer.life false (length row.packet.octets) at ∷ []
     → new.effects.items ≡ old.effects.items
     ++ effect.Fate row.packet.number (fate.Down row.life peer.addr (gpdu peer row.packet.octets)) ∷ []
@@ -103,9 +102,9 @@ passed_more old new before so_far row bearer peer tried at known ranges there no
     let posted : ℕ → Happening = λ moment. forwarded bearer.life
     (record { up = false; octets = octets; at = moment }) in
     subst (λ passed. Releases new before (outcome passed)) (sym (passing.answer ∙ let_through)) (record {
-      meters = subst (λ (m : Meters). MetersStand m (with_row so_far.0 (row_for so_far.0 bearer false octets)))
+      meters = subst (λ (m : MetersState). MetersStand m (with_row so_far.0 (row_for so_far.0 bearer false octets)))
           (sym meters)
-          (put_stands old.meters so_far.0 bearer false octets tried.1 known.meters ranges there (passing.behind let_through));
+          (put_stands (in_use old.meters) so_far.0 bearer false octets tried.1 known.meters ranges there (passing.behind let_through));
       postings = ap (λ ps. before ++ map happening_of ps) postings
           ∙ ap (λ hs. before ++ hs) (map_push happening_of old.postings.items (Packet bearer.life false octets at))
           ∙ sym (append_assoc before (map happening_of old.postings.items) (posted at ∷ []))
@@ -121,7 +120,7 @@ pub passed_here : (old new : Release) (before : List Happening) (so_far : Past �
     → octets ≡ row.packet.octets → Releases old before so_far → IsVersion so_far.0.version
     → Contains so_far.0.version.bearers bearer → moment_of so_far.0 ≡ at
     → Tries (at_moment so_far.0 at) bearer false (length octets) tried → tried.0 ≡ true
-    → new.meters ≡ put_bucket old.meters bearer false tried.1
+    → in_use new.meters ≡ put_bucket (in_use old.meters) bearer false tried.1
     → new.postings.items ≡ old.postings.items ++ Packet bearer.life false (length octets) at ∷ []
     → new.effects.items ≡ old.effects.items
     ++ effect.Fate row.packet.number (fate.Down row.life peer.addr (gpdu peer octets)) ∷ []

@@ -20,14 +20,13 @@ use Rattle.charging_book.proofs.PostedLemmas.{may_by_pieces}
 use Rattle.ipv4_packet.specs.Packet.{IsPacket}
 use Rattle.bearer_state.specs.declared.version.ActiveBearer.{ActiveBearer}
 use Rattle.bearer_state.specs.Version.{VersionState, bearer_at}
-use Rattle.packet_steps.specs.declared.meters.Meters.{Meters}
 use Rattle.packet_steps.specs.declared.plan.Plan.{Plan}
 use Rattle.packet_steps.specs.declared.plan.Plan.TheVariants as plan
 use Rattle.packet_steps.specs.declared.releasing.Release.{Release}
 use Rattle.packet_steps.specs.Rows.{HeldRow}
 use Rattle.packet_steps.specs.Messages.{gpdu}
 use Rattle.packet_steps.specs.Verdicts.{bearer_for, is_packet}
-use Rattle.packet_steps.specs.Meters.{bucket_for, put_bucket}
+use Rattle.packet_steps.specs.Meters.{MetersState, in_use, bucket_for, put_bucket}
 use Rattle.packet_steps.specs.Standing.{CountersState}
 use Rattle.packet_steps.specs.Running.{cost_in, left_of, left_for, planned_up, planned_down, planned_by_way, planned, meters_behind, held_behind, charged_by, GoesOn, Brought, brought_by, with_fate, with_put, with_charge, brought_through, brought_to}
 use Rattle.packet_steps.proofs.PacketLemmas.{packet_passes}
@@ -40,7 +39,7 @@ pub at_now : (b : BucketState) (octets at : ℕ) → b.last ≤ at → cost_of o
 at_now b octets at late = ap (cost_of octets) (omega arith)
 
 -- whether octets pass, and the bucket that is left
-pub left_is : (meters : Meters) (bearer : ActiveBearer) (up : Bool) (octets at : ℕ) (old : BucketState)
+pub left_is : (meters : MetersState) (bearer : ActiveBearer) (up : Bool) (octets at : ℕ) (old : BucketState)
     (tried : Bool × BucketState) → old ≡ bucket_for meters bearer up
     → tried.0 ≡ lets_through old (cost_in old octets at) → tried.1 ≡ asked old (cost_in old octets at)
     → tried ≡ left_for meters bearer up octets at
@@ -129,18 +128,11 @@ same_brought x y meters charged effects = λ i. record {
   effects = effects i;
 }
 
-pub brought_fate : (old new : Release) (row : HeldRow) (fate_ : Fate) → new.meters ≡ old.meters
-    → new.postings.items ≡ old.postings.items
-    → new.effects.items ≡ old.effects.items ++ effect.Fate row.packet.number fate_ ∷ []
-    → brought_by new ≡ with_fate (brought_by old) row fate_
-brought_fate old new row fate_ meters postings effects =
-    same_brought (brought_by new) (with_fate (brought_by old) row fate_) meters (ap (map happening_of) postings) effects
-
 -- a held packet that is refused: its bucket is put back all the same
 pub brought_no : (old new : Release) (row : HeldRow) (bearer : ActiveBearer) (peer : Peer) (tried : Bool × BucketState)
     (at : ℕ) (octets : List ℕ)
-    → octets ≡ row.packet.octets → tried ≡ left_for old.meters bearer false (length octets) at → tried.0 ≡ false
-    → new.meters ≡ put_bucket old.meters bearer false tried.1 → new.postings.items ≡ old.postings.items
+    → octets ≡ row.packet.octets → tried ≡ left_for (in_use old.meters) bearer false (length octets) at → tried.0 ≡ false
+    → in_use new.meters ≡ put_bucket (in_use old.meters) bearer false tried.1 → new.postings.items ≡ old.postings.items
     → new.effects.items ≡ old.effects.items ++ effect.Fate row.packet.number (fate.Policed row.life) ∷ []
     → brought_by new ≡ brought_to (brought_by old) row bearer at (Some peer)
 brought_no old new row bearer peer tried at octets is left kept_back meters postings effects =
@@ -152,12 +144,12 @@ brought_no old new row bearer peer tried at octets is left kept_back meters post
     ∙ sym (ap (λ b. cond b (with_fate (with_charge put row bearer at) row down)
     (with_fate put row (fate.Policed row.life))) kept_back)
     ∙ ap (brought_through so_far row bearer peer at)
-    (left ∙ ap (λ (text : List ℕ). left_for old.meters bearer false (length text) at) is)
+    (left ∙ ap (λ (text : List ℕ). left_for (in_use old.meters) bearer false (length text) at) is)
 
 pub brought_yes : (old new : Release) (row : HeldRow) (bearer : ActiveBearer) (peer : Peer)
     (tried : Bool × BucketState) (at : ℕ) (octets : List ℕ)
-    → octets ≡ row.packet.octets → tried ≡ left_for old.meters bearer false (length octets) at → tried.0 ≡ true
-    → new.meters ≡ put_bucket old.meters bearer false tried.1
+    → octets ≡ row.packet.octets → tried ≡ left_for (in_use old.meters) bearer false (length octets) at → tried.0 ≡ true
+    → in_use new.meters ≡ put_bucket (in_use old.meters) bearer false tried.1
     → new.postings.items ≡ old.postings.items ++ posting.Packet bearer.life false (length octets) at ∷ []
     → new.effects.items ≡ old.effects.items
     ++ effect.Fate row.packet.number (fate.Down row.life peer.addr (gpdu peer octets)) ∷ []
@@ -176,4 +168,4 @@ brought_yes old new row bearer peer tried at octets is left let_through meters p
     ∙ sym (ap (λ b. cond b (with_fate (with_charge put row bearer at) row down)
     (with_fate put row (fate.Policed row.life))) let_through)
     ∙ ap (brought_through so_far row bearer peer at)
-    (left ∙ ap (λ (text : List ℕ). left_for old.meters bearer false (length text) at) is)
+    (left ∙ ap (λ (text : List ℕ). left_for (in_use old.meters) bearer false (length text) at) is)

@@ -7,12 +7,11 @@ use Rattle.charging_book.specs.Postings.{MayFollow}
 use Rattle.charging_book.proofs.Steps.{lives-push}
 use Rattle.rate_policer.specs.Buckets.{BucketState}
 use Rattle.bearer_state.specs.declared.version.ActiveBearer.{ActiveBearer}
-use Rattle.packet_steps.specs.declared.meters.Meters.{Meters}
 use Rattle.packet_steps.specs.Rows.{ForwardedRow, HeldRow}
 use Rattle.packet_steps.specs.Past.{Past, moment_of, row_for, happening_for, with_row, with_held}
 use Rattle.packet_steps.specs.Verdicts.{at_moment}
 use Rattle.packet_steps.specs.Change.{has_life}
-use Rattle.packet_steps.specs.Meters.{put_bucket, MetersStand}
+use Rattle.packet_steps.specs.Meters.{MetersState, put_bucket, MetersStand}
 use Rattle.packet_steps.specs.Standing.{StandsFor, CountersState, AreFew, last_of}
 use Rattle.packet_steps.specs.Plans.{PolicesBehind, PolicesStill}
 use Rattle.packet_steps.proofs.BearerLemmas.{none_in_nil, of_cons}
@@ -117,7 +116,7 @@ pub passes_stand : (counters new : CountersState) (past : Past) (taken at octets
 passes_stand counters new past taken at octets bearer up bucket stands late there behind meters charges held last =
     let row = row_for (at_moment past at) bearer up octets in
     record {
-      meters = subst (λ (m : Meters). MetersStand m (with_row (at_moment past at) row)) (sym meters)
+      meters = subst (λ (m : MetersState). MetersStand m (with_row (at_moment past at) row)) (sym meters)
           (put_stands counters.meters (at_moment past at) bearer up octets bucket
           (meters_later counters.meters past at stands.meters late) stands.ranges there behind);
       charges = charges;

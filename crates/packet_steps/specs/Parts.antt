@@ -12,11 +12,10 @@ use Rattle.bearer_state.specs.declared.version.ActiveBearer.{ActiveBearer}
 use Rattle.bearer_state.specs.Qos.{is_guaranteed}
 use Rattle.bearer_state.specs.Version.{VersionState}
 use Rattle.packet_steps.specs.declared.meters.Meter.{Meter}
-use Rattle.packet_steps.specs.declared.meters.Meters.{Meters}
 use Rattle.packet_steps.specs.Rows.{HeldRow, in_order}
 use Rattle.packet_steps.specs.Past.{Past}
 use Rattle.packet_steps.specs.Change.{waits}
-use Rattle.packet_steps.specs.Meters.{new_meter, own_meter}
+use Rattle.packet_steps.specs.Meters.{MetersState, own_meter, unused, no_meters}
 use Rattle.packet_steps.specs.Standing.{CountersState, StandsFor}
 
 -- the moment of the last packet, the buckets, the last pieces of the lives that aren't over, the packets that are held
@@ -27,13 +26,13 @@ pub record PartsState : Type 0 where
   pub held : List HeldRow
 
 -- the buckets of meters, up before down: those of the AMBR, then those of each bearer with a guaranteed rate, by index
-abbrev pub own_buckets : Meters → ActiveBearer → List bucket.BucketState
+abbrev pub own_buckets : MetersState → ActiveBearer → List bucket.BucketState
 own_buckets meters bearer =
     if is_guaranteed bearer.qos.qci
     then (own_meter meters bearer.index).up ∷ (own_meter meters bearer.index).down ∷ []
     else []
 
-abbrev pub buckets_in : List ActiveBearer → Meters → List bucket.BucketState
+abbrev pub buckets_in : List ActiveBearer → MetersState → List bucket.BucketState
 buckets_in bearers meters = meters.shared.up ∷ meters.shared.down ∷ flat_map (own_buckets meters) bearers
 
 -- counters have these parts under a version
@@ -120,14 +119,6 @@ fit version parts = may_fit version parts && book.are_parts parts.pieces
 abbrev pub first_meter : List bucket.BucketState → Meter
 first_meter buckets =
     record { up = get_or buckets 0 (bucket.full_bucket 0); down = get_or buckets 1 (bucket.full_bucket 0) }
-
--- no own meter is in use
-abbrev pub unused : Meter
-unused = new_meter 0 0
-
-abbrev pub no_meters : List Meter
-no_meters =
-    unused ∷ unused ∷ unused ∷ unused ∷ unused ∷ unused ∷ unused ∷ unused ∷ unused ∷ unused ∷ unused ∷ []
 
 -- counters before the first packet
 abbrev pub new_counters : CountersState

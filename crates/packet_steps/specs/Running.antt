@@ -21,7 +21,6 @@ use Rattle.charging_book.specs.Posted.{GoesFar}
 use Rattle.ipv4_packet.specs.Fields.{source_of}
 use Rattle.bearer_state.specs.declared.version.ActiveBearer.{ActiveBearer}
 use Rattle.bearer_state.specs.Version.{VersionState, bearer_at}
-use Rattle.packet_steps.specs.declared.meters.Meters.{Meters}
 use Rattle.packet_steps.specs.declared.plan.Plan.{Plan}
 use Rattle.packet_steps.specs.declared.plan.Plan.TheVariants as plan
 use Rattle.packet_steps.specs.declared.releasing.Release.{Release}
@@ -29,7 +28,7 @@ use Rattle.packet_steps.specs.Rows.{HeldRow}
 use Rattle.packet_steps.specs.Messages.{gpdu}
 use Rattle.packet_steps.specs.Verdicts.{message_for, bearer_for, is_packet}
 use Rattle.packet_steps.specs.Change.{bearer_of, waits, marks, markers}
-use Rattle.packet_steps.specs.Meters.{bucket_for, put_bucket, learnt_meters}
+use Rattle.packet_steps.specs.Meters.{MetersState, in_use, bucket_for, put_bucket, learnt_meters}
 use Rattle.packet_steps.specs.Standing.{CountersState}
 
 -- octets ask a bucket at a moment, or at that of its last ask where this is later
@@ -41,7 +40,7 @@ abbrev pub left_of : BucketState → ℕ → ℕ → Bool × BucketState
 left_of bucket octets at =
     (lets_through bucket (cost_in bucket octets at), asked bucket (cost_in bucket octets at))
 
-abbrev pub left_for : Meters → ActiveBearer → Bool → ℕ → ℕ → Bool × BucketState
+abbrev pub left_for : MetersState → ActiveBearer → Bool → ℕ → ℕ → Bool × BucketState
 left_for meters bearer up octets at = left_of (bucket_for meters bearer up) octets at
 
 -- what is to become of a packet, by what trying it came to
@@ -49,7 +48,7 @@ abbrev pub planned_through : ActiveBearer → ℕ → Bool × BucketState → Pl
 planned_through bearer len tried =
     if tried.0 then plan.Up bearer tried.1 len else plan.Policed bearer true tried.1
 
-abbrev pub planned_up : VersionState → Meters → ℕ → List ℕ → Option ActiveBearer → Plan
+abbrev pub planned_up : VersionState → MetersState → ℕ → List ℕ → Option ActiveBearer → Plan
 planned_up version meters at octets None = plan.NoBearer
 planned_up version meters at octets (Some bearer) =
     if source_of octets == addr_of version.slot
@@ -87,7 +86,7 @@ planned version counters packet =
     else plan.NoBearer
 
 -- the buckets behind what was planned · the packets that are held · what the book hears of it
-abbrev pub meters_behind : Plan → Meters → Meters
+abbrev pub meters_behind : Plan → MetersState → MetersState
 meters_behind plan.NoBearer meters = meters
 meters_behind plan.Spoof meters = meters
 meters_behind (plan.Idle life) meters = meters
@@ -126,13 +125,13 @@ pub record GoesOn (plan_ : Plan) (packet : Packet) (old new : CountersState) : T
 
 -- what a new version has brought so far: the buckets, what the book hears of it, the effects
 pub record Brought : Type 0 where
-  pub meters : Meters
+  pub meters : MetersState
   pub charged : List Happening
   pub effects : List Effect
 
 abbrev pub brought_by : Release → Brought
 brought_by release = record {
-  meters = release.meters;
+  meters = in_use release.meters;
   charged = map happening_of release.postings.items;
   effects = release.effects.items;
 }

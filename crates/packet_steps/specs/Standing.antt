@@ -6,15 +6,14 @@ use Rattle.charging_book.specs.Accounts as book
 use Rattle.charging_book.specs.Happenings as happenings
 use Rattle.bearer_state.specs.declared.version.ActiveBearer.{ActiveBearer}
 use Rattle.bearer_state.specs.Version.{VersionState, IsVersion}
-use Rattle.packet_steps.specs.declared.meters.Meters.{Meters}
 use Rattle.packet_steps.specs.Rows.{ForwardedRow, HeldRow}
 use Rattle.packet_steps.specs.Past.{Past}
 use Rattle.packet_steps.specs.Change.{has_life, learnt}
-use Rattle.packet_steps.specs.Meters.{MetersStand}
+use Rattle.packet_steps.specs.Meters.{MetersState, MetersStand}
 
 -- running counters as contracts see them
 pub record CountersState : Type 0 where
-  pub meters : Meters
+  pub meters : MetersState
   pub book : book.Accounts
   pub held : List HeldRow
   pub last : Option ℕ

@@ -36,12 +36,13 @@ pub fn advance(
     let bearers = after.bearers();
     let postings = marks(alloc, before, after)?;
     let effects = markers(alloc, before, after)?;
+    let meters = counters.meters.try_clone()?;
     let mut release = Release {
-        meters: counters.meters,
+        meters,
         postings,
         effects,
     };
-    release.meters.learn(before, after);
+    release.meters.learn(before, after)?;
     let at = last_moment(counters.last);
     look_at_all(&mut release, alloc, after, at, &counters.held)?;
     counters.book.post(&release.postings)?;

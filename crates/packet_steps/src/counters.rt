@@ -25,12 +25,13 @@ pub struct Counters {
 impl Model for Counters {
     ghost use Rattle.std.specs.Prelude.{IsTrue};
     ghost use Rattle.packet_steps.specs.Rows.{held_in_order};
+    ghost use Rattle.packet_steps.specs.Meters.{in_use};
     ghost use Rattle.packet_steps.specs.Standing.{CountersState};
 
     ghost Value = { CountersState };
 
     ghost view = { λ counters. record {
-      meters = counters.meters;
+      meters = in_use counters.meters;
       book = counters.book;
       held = counters.held.items;
       last = counters.last;
@@ -45,12 +46,8 @@ impl Counters {
         ensures stands { (slot : ℕ) → StandsFor result (new_past slot) 0 }
         ensures new { result ≡ new_counters }
     {
-        let none = Meter::new(Kbps(0), Kbps(0));
         Counters {
-            meters: Meters {
-                shared: none,
-                own: [none; 11],
-            },
+            meters: Meters::new(alloc, Meter::new(Kbps(0), Kbps(0))),
             book: Book::new(alloc),
             held: Vec::new(alloc),
             last: None,

@@ -3,7 +3,6 @@ ghost use Rattle.std.specs.Prelude.{◌≡◌};
 ghost use Rattle.packet_steps.specs.Policing.{same_way};
 
 use pc_base::Moment;
-use std::marker::Model;
 
 /// A packet as it was forwarded: the life of its bearer, which way, how many octets it has, when; and the
 /// bearer's class of service and how often the AMBR had been set then.
@@ -15,30 +14,6 @@ pub struct Forwarded {
     pub at: Moment,
     pub qci: u8,
     pub rates: u64,
-}
-
-impl Model for Forwarded {
-    ghost use Rattle.packet_steps.specs.Rows.{ForwardedRow};
-
-    ghost Value = { ForwardedRow };
-
-    ghost view = { λ row. record {
-      life = row.life;
-      up = row.up;
-      octets = row.octets;
-      at = row.at;
-      qci = row.qci;
-      rates = row.rates;
-    } };
-
-    ghost inverse = { λ row. record {
-      life = row.life;
-      up = row.up;
-      octets = row.octets;
-      at = row.at;
-      qci = row.qci;
-      rates = row.rates;
-    } };
 }
 
 /// Whether a row that went up, or down, went this way.

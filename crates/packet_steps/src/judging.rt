@@ -1,16 +1,16 @@
 //! What becomes of a packet.
-ghost use Rattle.std.specs.Prelude.{◌≡◌, ℕ, ◌<◌, ◌≤◌, IfOk, IfSome, OnOk, OnErr, Option};
+ghost use Rattle.std.specs.Prelude.{◌≡◌, ℕ, ◌<◌, ◌≤◌, IfOk, IfSome, Option};
 ghost use Rattle.std.specs.List.{Contains};
 ghost use Rattle.std.specs.Option.{option_copied};
 ghost use Rattle.pc_base.specs.declared.packet.Packet.{Packet};
 ghost use Rattle.bearer_state.specs.Bearer.{IsEbi};
 ghost use Rattle.bearer_state.specs.Version.{bearer_at};
 ghost use Rattle.ipv4_packet.specs.Packet.{IsPacket};
-ghost use Rattle.packet_steps.specs.Past.{Past, moment_of};
+ghost use Rattle.packet_steps.specs.Past.{Past};
 ghost use Rattle.packet_steps.specs.Verdicts.{at_moment, bearer_for, judged_now, judged_up, judged_down};
 ghost use Rattle.packet_steps.specs.Verdicts.{judged_waiting, notice};
-ghost use Rattle.packet_steps.specs.Standing.{StandsFor, AreFew, last_of};
-ghost use Rattle.packet_steps.specs.Plans.{Plans, Does, PolicesBehind};
+ghost use Rattle.packet_steps.specs.Standing.{StandsFor, last_of};
+ghost use Rattle.packet_steps.specs.Plans.{Plans};
 
 use crate::NoMemory;
 use crate::counters::Counters;
@@ -25,8 +25,6 @@ use tft_match::choose;
 pub const MOST_HELD: usize = 16;
 
 impl Counters {
-    ghost use Rattle.std.specs.Prelude.{[], ◌∷◌, ◌++◌, Bool};
-    ghost use Rattle.packet_steps.specs.Past.{row_for, with_row, with_held};
     ghost use Rattle.packet_steps.specs.Verdicts.{message_for};
     ghost use Rattle.packet_steps.specs.Running.{planned, planned_up, planned_down, planned_waiting};
 

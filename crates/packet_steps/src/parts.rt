@@ -1,16 +1,16 @@
 //! The parts of counters, and counters of parts.
-ghost use Rattle.std.specs.Prelude.{◌≡◌, ◌++◌, drop, length, get_or, slice_set};
+ghost use Rattle.std.specs.Prelude.{◌≡◌, ◌++◌, drop, get_or};
 ghost use Rattle.std.specs.Prelude.{IfOk, IfSome, OnOk, IsTrue};
 ghost use Rattle.std.specs.Option.{is_some};
 ghost use Rattle.rate_policer.specs.Buckets.{full_bucket};
 ghost use Rattle.charging_book.specs.Parts.{are_parts};
-ghost use Rattle.packet_steps.specs.Meters.{own_meter};
+ghost use Rattle.packet_steps.specs.Meters.{in_use, no_meters};
 ghost use Rattle.packet_steps.specs.Parts.{ArePartsOf, IsMadeOf, buckets_in, own_buckets};
 ghost use Rattle.packet_steps.specs.Parts.{fit, may_fit, first_fit, own_fit, buckets_fit, were_asked};
 ghost use Rattle.packet_steps.specs.Parts.{is_piece_of, has_bearer, all_have_bearers, pieces_fit};
 ghost use Rattle.packet_steps.specs.Rows.{in_order, held_in_order};
 ghost use Rattle.packet_steps.specs.Parts.{may_wait, all_may_wait, waiting_fit, held_fit};
-ghost use Rattle.packet_steps.specs.Parts.{first_meter, no_meters, own_with, PartsRepresentTheSame};
+ghost use Rattle.packet_steps.specs.Parts.{first_meter, own_with, PartsRepresentTheSame};
 
 use crate::advancing::last_moment;
 use crate::counters::Counters;
@@ -67,6 +67,13 @@ impl Counters {
         })
     }
 
+    /// The packets that are held are in the order of their moments, and none is later than the last packet.
+    pub fn known(&self)
+        ensures { IsTrue (held_in_order self.now.last self.now.held) }
+    {
+        let _held = &self.held;
+    }
+
     /// The counters with these parts under a version, with no charging records; None exactly where one of
     /// these fails. The buckets are two at the version's rates up and down, then two at its maximum rates
     /// for each active bearer with a guaranteed rate, by index; none was asked later than at `last`, or 0.
@@ -90,7 +97,7 @@ impl Counters {
         let Some(book) = Book::of(alloc, &pieces)? else {
             return Ok(None);
         };
-        let meters = meters_of(version.bearers(), &buckets);
+        let meters = meters_of(alloc, version.bearers(), &buckets)?;
         Ok(Some(Counters {
             meters,
             book,
@@ -108,7 +115,7 @@ pub fn parts_represent_the_same()
 impl Meters {
     /// The buckets of these bearers.
     fn buckets(&self, alloc: Global, bearers: &[ActiveBearer]) -> Result<Vec<Bucket>, NoMemory>
-        ensures { IfOk result (λ buckets. buckets.items ≡ buckets_in bearers.now self.now) }
+        ensures { IfOk result (λ buckets. buckets.items ≡ buckets_in bearers.now (in_use self.now)) }
     {
         let mut buckets = Vec::new(alloc);
         buckets.push(self.shared.up)?;
@@ -120,7 +127,7 @@ impl Meters {
     }
 
     fn push_own(&self, buckets: &mut Vec<Bucket>, bearer: &ActiveBearer) -> Result<(), NoMemory>
-        ensures { OnOk result (buckets.new.items ≡ buckets.old.items ++ own_buckets self.now bearer.now) }
+        ensures { OnOk result (buckets.new.items ≡ buckets.old.items ++ own_buckets (in_use self.now) bearer.now) }
     {
         if !is_guaranteed(bearer.qos.qci) {
             return Ok(());
@@ -130,46 +137,29 @@ impl Meters {
         buckets.push(meter.down)?;
         Ok(())
     }
-
-    fn own_meter(&self, index: u8) -> Meter
-        ensures { result ≡ own_meter self.now index }
-    {
-        match self.own.get(index as usize) {
-            Some(meter) => *meter,
-            None => Meter::new(Kbps(0), Kbps(0)),
-        }
-    }
-
-    /// Puts a bearer's own meter in its place, where there is one.
-    fn put_own(&mut self, index: u8, meter: Meter)
-        ensures { self.new ≡ record self.old { own = slice_set self.old.own index meter } }
-    {
-        if index < 11 {
-            self.own[index as usize] = meter;
-        }
-    }
 }
 
 /// The meters of these buckets.
-fn meters_of(bearers: &[ActiveBearer], buckets: &[Bucket]) -> Meters
-    ensures shared { result.shared ≡ first_meter buckets.now }
-    ensures own { result.own ≡ own_with no_meters bearers.now (drop 2 buckets.now) }
+fn meters_of(
+    alloc: Global,
+    bearers: &[ActiveBearer],
+    buckets: &[Bucket],
+) -> Result<Meters, NoMemory>
+    ensures shared { IfOk result (λ meters. (in_use meters).shared ≡ first_meter buckets.now) }
+    ensures own { IfOk result (λ meters. (in_use meters).own
+        ≡ own_with no_meters bearers.now (drop 2 buckets.now)) }
 {
-    let none = Meter::new(Kbps(0), Kbps(0));
-    let mut meters = Meters {
-        shared: first_meter(buckets),
-        own: [none; 11],
-    };
+    let mut meters = Meters::new(alloc, first_meter(buckets));
     let mut left = bearers;
     let mut rest = behind_two(buckets);
     while let Some((bearer, others)) = left.split_first() {
         if is_guaranteed(bearer.qos.qci) {
-            meters.put_own(bearer.index, first_meter(rest));
+            meters.try_put_own(bearer.index, first_meter(rest))?;
             rest = behind_two(rest);
         }
         left = others;
     }
-    meters
+    Ok(meters)
 }
 
 fn first_meter(buckets: &[Bucket]) -> Meter

@@ -8,6 +8,7 @@ ghost use Rattle.charging_book.specs.Happenings.{Happening};
 ghost use Rattle.pc_base.specs.declared.effect.Effect.{Effect};
 ghost use Rattle.packet_steps.specs.Past.{Past, moment_of};
 ghost use Rattle.packet_steps.specs.Change.{bearer_of, released, released_to, waits};
+ghost use Rattle.packet_steps.specs.Meters.{in_use};
 ghost use Rattle.packet_steps.specs.Releases.{Releases};
 ghost use Rattle.packet_steps.specs.Running.{brought_by, brought_with, brought_to};
 
@@ -61,7 +62,6 @@ impl Release {
         bearer: &ActiveBearer,
         peer: Peer,
     ) -> Result<(), NoMemory>
-        requires { bearer.now.index < 11 }
         ensures releases { (base : List Happening) (so_far : Past × List Effect) → Releases self.old base so_far
             → IsVersion so_far.0.version
             → Contains so_far.0.version.bearers bearer.now → bearer.now.life ≡ held.now.life → moment_of so_far.0 ≡ at
@@ -72,7 +72,7 @@ impl Release {
         let octets = held.packet.octets.as_slice();
         let len = octets.len() as u32;
         let (passes, bucket) = self.meters.tried(bearer, false, at, len);
-        self.meters.put(bearer, false, bucket);
+        self.meters.try_put(bearer, false, bucket)?;
         if !passes {
             return self.tell(held, Fate::Policed { life: held.life });
         }
@@ -93,7 +93,7 @@ impl Release {
     }
 
     fn tell(&mut self, held: &HeldPacket, fate: Fate) -> Result<(), NoMemory>
-        ensures meters { self.new.meters ≡ self.old.meters }
+        ensures meters { in_use self.new.meters ≡ in_use self.old.meters }
         ensures postings { self.new.postings.items ≡ self.old.postings.items }
         ensures effects { OnOk result
             (self.new.effects.items ≡ self.old.effects.items ++ effect.Fate held.now.packet.number fate ∷ []) }

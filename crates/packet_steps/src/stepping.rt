@@ -58,10 +58,7 @@ impl Counters {
                 ..
             } => self.pass(bearer, false, *bucket, moment, *len),
             Plan::Hold { life, .. } => self.hold(*life, number, moment, way, octets),
-            Plan::Policed { bearer, up, bucket } => {
-                self.refuse(bearer, *up, *bucket, moment);
-                Ok(())
-            }
+            Plan::Policed { bearer, up, bucket } => self.refuse(bearer, *up, *bucket, moment),
             Plan::NoBearer | Plan::Spoof | Plan::Idle { .. } => {
                 self.stay(moment);
                 Ok(())
@@ -81,20 +78,29 @@ impl Counters {
     }
 
     // A packet came that its bearer's bucket doesn't let through.
-    fn refuse(&mut self, bearer: &ActiveBearer, up: bool, bucket: Bucket, moment: Moment)
+    #[inline(always)]
+    fn refuse(
+        &mut self,
+        bearer: &ActiveBearer,
+        up: bool,
+        bucket: Bucket,
+        moment: Moment,
+    ) -> Result<(), NoMemory>
         requires { IfSome (last_of self.old) (λ last. last ≤ moment) }
         ensures stands { (past : Past) (taken : ℕ) → StandsFor self.old past taken → moment_of past ≤ moment
             → Contains past.version.bearers bearer.now
             → PolicesStill (at_moment past moment) bearer.now up bucket
-            → StandsFor self.new (at_moment past moment) taken }
-        ensures same { self.new ≡ record self.old {
+            → OnOk result (StandsFor self.new (at_moment past moment) taken) }
+        ensures same { OnOk result (self.new ≡ record self.old {
           meters = put_bucket self.old.meters bearer.now up bucket;
           last = Some moment;
-        } }
-        ensures moment { last_of self.new ≡ Some moment }
+        }) }
+        ensures moment { OnOk result (last_of self.new ≡ Some moment) }
+        ensures unchanged { OnErr result (self.new ≡ self.old) }
     {
-        self.meters.put(bearer, up, bucket);
+        self.meters.try_put(bearer, up, bucket)?;
         self.last = Some(moment);
+        Ok(())
     }
 
     fn hold(
@@ -158,6 +164,7 @@ impl Counters {
         ensures moment { OnOk result (last_of self.new ≡ Some moment) }
         ensures unchanged { OnErr result (self.new ≡ self.old) }
     {
+        self.meters.keep_place(bearer)?;
         self.book.post_one(&Posting::Packet {
             life: bearer.life,
             up,

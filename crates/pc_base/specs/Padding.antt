@@ -15,11 +15,11 @@ use Rattle.std.proofs.Common.{
   take-append-drop,
 }
 
-pub length-front : (digits : List ℕ) (len : ℕ) → length digits ≡ 15 → len ≤ 15 → length (take len digits) ≡ len
-length-front digits len whole fits = length-take-le len digits (omega arith)
+pub length-prefix : (digits : List ℕ) (len : ℕ) → length digits ≡ 15 → len ≤ 15 → length (take len digits) ≡ len
+length-prefix digits len whole fits = length-take-le len digits (omega arith)
 
-pub front-append-zeros : (digits : List ℕ) (len : ℕ) → length digits ≡ 15 → len ≤ 15
+pub prefix-append-zeros : (digits : List ℕ) (len : ℕ) → length digits ≡ 15 → len ≤ 15
     → drop len digits ≡ replicate (15 - len) 0
     → take len digits ++ replicate (15 - length (take len digits)) 0 ≡ digits
-front-append-zeros digits len whole fits zeros =
-    rw (length-front digits len whole fits, ← zeros) (take-append-drop len digits)
+prefix-append-zeros digits len whole fits zeros =
+    rw (length-prefix digits len whole fits, ← zeros) (take-append-drop len digits)

@@ -19,7 +19,7 @@ pub struct Imsi {
 impl Model for Imsi {
     ghost use Rattle.std.specs.Prelude.{◌≡◌, ℕ, ◌-◌, ◌≤◌, ◌++◌, List, length, take, drop, replicate};
     ghost use Rattle.pc_base.specs.Imsi.{IsImsi};
-    ghost use Rattle.pc_base.specs.Padding.{length-front, front-append-zeros};
+    ghost use Rattle.pc_base.specs.Padding.{length-prefix, prefix-append-zeros};
 
     ghost Value = { List ℕ };
 
@@ -31,8 +31,8 @@ impl Model for Imsi {
     ghost inverse = { λ digits. record { digits = digits ++ replicate (15 - length digits) 0; len = length digits } };
 
     ghost inverse_ok = { λ imsi kept i. record {
-      digits = front-append-zeros imsi.digits imsi.len kept.1 kept.2 kept.3 i;
-      len = length-front imsi.digits imsi.len kept.1 kept.2 i;
+      digits = prefix-append-zeros imsi.digits imsi.len kept.1 kept.2 kept.3 i;
+      len = length-prefix imsi.digits imsi.len kept.1 kept.2 i;
     } };
 }
 

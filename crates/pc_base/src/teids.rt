@@ -1,6 +1,6 @@
 //! The TEIDs that the gateway gives out: 16 * (slot + 1) for the control plane of a slot, and that
 //! plus index + 1 for its bearer of this index.
-ghost use Rattle.std.specs.Prelude.{◌≡◌, ℕ, ◌+◌, ◌-◌, ◌*◌, ◌/◌, ◌%◌, ◌<◌, ◌≤◌, ◌⊎◌, ◌↔◌, IsNone, IfSome};
+ghost use Rattle.std.specs.Prelude.{◌≡◌, ℕ, ◌+◌, ◌-◌, ◌*◌, ◌/◌, ◌%◌, ◌<◌, ◌⊎◌, ◌↔◌, IsNone, IfSome};
 ghost use Rattle.pc_base.specs.declared.packet.TeidUse.{TeidUse};
 ghost use Rattle.pc_base.specs.Slots.{IsSlot};
 ghost use Rattle.pc_base.specs.Teids.{teid_of, IsTeidUse};

@@ -9,7 +9,6 @@ use Rattle.pc_outside.specs.declared.reading.LineRead.{LineRead}
 use Rattle.pc_outside.specs.declared.reading.LineRead.TheVariants as read
 use Rattle.pc_outside.specs.InputRead.{FailsBehind, HasRead, IsTaken, Reached}
 use Rattle.pc_outside.specs.WhereTold.{WhereTold}
-use Rattle.pc_outside.proofs.ToldLemmas.{told_map}
 use Rattle.pc_outside.specs.Texts.{Texts, Text, long, big, ended, stopped, after_lines, texts_of, texts_within}
 use Rattle.pc_outside.specs.declared.input_stop.InputStop.TheVariants as stopped_at
 use Rattle.pc_outside.proofs.InputTexts.{at_end, input_big, last_line, line_long, unfinished, whole_line}
@@ -35,11 +34,11 @@ none_before None = refl
 none_before (Some octets) = refl
 
 pub starts_fresh : (start : Option (List ℕ)) (now : Held)
-    → now ≡ record { line = []; last = false; front = []; room = 2 ^ 40 }
-    → WhereTold start (prepend_known now.front start) (λ octets rest. HasRead octets rest now.room [])
+    → now ≡ record { line = []; last = false; buffered = []; room = 2 ^ 40 }
+    → WhereTold start (prepend_known now.buffered start) (λ octets rest. HasRead octets rest now.room [])
 starts_fresh start now fresh =
-    starts start (prepend_known now.front start) now.room
-    (ap (λ (held : Held). prepend_known held.front start) fresh ∙ none_before start)
+    starts start (prepend_known now.buffered start) now.room
+    (ap (λ (held : Held). prepend_known held.buffered start) fresh ∙ none_before start)
     (ap (λ (held : Held). held.room) fresh)
 
 -- a line and its newline are gone through too
@@ -81,34 +80,25 @@ read_last room after done line octets ahead rest before holds =
     ∙ ap (after_lines (done ++ line ∷ [])) (at_end after holds.form.more)
     ∙ ap (λ lines. record { lines = lines; stop = ended }) (append-nil (done ++ line ∷ []))
 
--- something follows of the octets that were read, and of what the next answer says of those ahead
-told_then : (start mid left : Option (List ℕ)) (P Q R : List ℕ → List ℕ → Type 0)
-    → ((octets ahead rest : List ℕ) → P octets ahead → Q ahead rest → R octets rest)
-    → WhereTold start mid P → WhereTold mid left Q → WhereTold start left R
-told_then None mid left P Q R follows first second = tt
-told_then (Some octets) None left P Q R follows first second = absurd first
-told_then (Some octets) (Some ahead) None P Q R follows first second = absurd second
-told_then (Some octets) (Some ahead) (Some rest) P Q R follows first second = follows octets ahead rest first second
-
 told_next : (start a left : Option (List ℕ)) (room after : ℕ) (one : LineRead) (line : Text) (last : Bool)
-    (front : List ℕ) (done : List Text) (R : List ℕ → List ℕ → Type 0)
+    (prefix : List ℕ) (done : List Text) (R : List ℕ → List ℕ → Type 0)
     → ((octets ahead rest : List ℕ) → HasRead octets ahead room done
-    → Answers one room after ahead (front ++ rest) line last → R octets rest)
+    → Answers one room after ahead (prefix ++ rest) line last → R octets rest)
     → WhereTold start a (λ octets rest. HasRead octets rest room done)
-    → Reads one room after a (prepend_known front left) line last → WhereTold start left R
-told_next None a left room after one line last front done R follows read reads = tt
-told_next (Some octets) None left room after one line last front done R follows read reads = absurd read
-told_next (Some octets) (Some ahead) None room after one line last front done R follows read reads = absurd reads
-told_next (Some octets) (Some ahead) (Some rest) room after one line last front done R follows read reads =
+    → Reads one room after a (prepend_known prefix left) line last → WhereTold start left R
+told_next None a left room after one line last prefix done R follows read reads = tt
+told_next (Some octets) None left room after one line last prefix done R follows read reads = absurd read
+told_next (Some octets) (Some ahead) None room after one line last prefix done R follows read reads = absurd reads
+told_next (Some octets) (Some ahead) (Some rest) room after one line last prefix done R follows read reads =
     follows octets ahead rest read reads
 
 -- whatever is told of what was read, the source tells what is left
 pub told_still : (start a left : Option (List ℕ)) (room after : ℕ) (one : LineRead) (line : Text) (last : Bool)
-    (front : List ℕ) (done : List Text)
+    (prefix : List ℕ) (done : List Text)
     → WhereTold start a (λ octets rest. HasRead octets rest room done)
-    → Reads one room after a (prepend_known front left) line last → WhereTold start left (λ octets rest. Unit {0})
-told_still start a left room after one line last front done read reads =
-    told_next start a left room after one line last front done (λ octets rest. Unit {0})
+    → Reads one room after a (prepend_known prefix left) line last → WhereTold start left (λ octets rest. Unit {0})
+told_still start a left room after one line last prefix done read reads =
+    told_next start a left room after one line last prefix done (λ octets rest. Unit {0})
     (λ octets ahead rest before says. tt) read reads
 
 -- one line more was read
@@ -129,23 +119,23 @@ none_left [] left none = none
 none_left (octet ∷ held) left none = cc
 
 -- no more lines come
-pub ends_last : (start a left : Option (List ℕ)) (room after : ℕ) (line : Text) (last : Bool) (front : List ℕ)
+pub ends_last : (start a left : Option (List ℕ)) (room after : ℕ) (line : Text) (last : Bool) (prefix : List ℕ)
     (done : List Text) → last ≡ true
     → WhereTold start a (λ octets rest. HasRead octets rest room done)
-    → Reads read.Line room after a (prepend_known front left) line last
+    → Reads read.Line room after a (prepend_known prefix left) line last
     → WhereTold start left (λ octets rest. Reached stopped_at.Ended octets rest (done ++ line ∷ []))
-ends_last start a left room after line last front done is =
-    told_next start a left room after read.Line line last front done
+ends_last start a left room after line last prefix done is =
+    told_next start a left room after read.Line line last prefix done
     (λ octets rest. Reached stopped_at.Ended octets rest (done ++ line ∷ []))
     (λ octets ahead rest before holds. by_last octets ahead rest last is before holds)
   where
     by_last : (octets ahead rest : List ℕ) (last : Bool) → last ≡ true → HasRead octets ahead room done
-        → HoldsLine room after ahead (front ++ rest) line last
+        → HoldsLine room after ahead (prefix ++ rest) line last
         → Reached stopped_at.Ended octets rest (done ++ line ∷ [])
     by_last octets ahead rest false is before holds = cc
     by_last octets ahead rest true is before holds =
-        let whole = read_last room after done line octets ahead (front ++ rest) before holds in (
-          (ap (λ (t : Texts). t.stop) whole, none_left front rest holds.form.none_left),
+        let whole = read_last room after done line octets ahead (prefix ++ rest) before holds in (
+          (ap (λ (t : Texts). t.stop) whole, none_left prefix rest holds.form.none_left),
           ap (λ (t : Texts). t.lines) whole,
         )
 
@@ -154,63 +144,63 @@ stands : (octets ahead : List ℕ) (room : ℕ) (done : List Text) (texts : Text
 stands octets ahead room done texts before is =
     ap texts_of before.parts ∙ before.says ahead ∙ ap (after_lines done) is
 
-pub ends_ended : (start a left : Option (List ℕ)) (room after : ℕ) (line : Text) (last : Bool) (front : List ℕ)
+pub ends_ended : (start a left : Option (List ℕ)) (room after : ℕ) (line : Text) (last : Bool) (prefix : List ℕ)
     (done : List Text)
     → WhereTold start a (λ octets rest. HasRead octets rest room done)
-    → Reads read.End room after a (prepend_known front left) line last
+    → Reads read.End room after a (prepend_known prefix left) line last
     → WhereTold start left (λ octets rest. Reached stopped_at.Ended octets rest done)
-ends_ended start a left room after line last front done =
-    told_next start a left room after read.End line last front done
+ends_ended start a left room after line last prefix done =
+    told_next start a left room after read.End line last prefix done
     (λ octets rest. Reached stopped_at.Ended octets rest done)
     (λ octets ahead rest before says.
     let whole : texts_of octets ≡ after_lines done (stopped ended) =
     stands octets ahead room done (stopped ended) before
     (ap (texts_within room) says.1 ∙ at_end room says.2) in (
-      (ap (λ (t : Texts). t.stop) whole, none_left front rest (says.0.octets_stay ∙ says.1)),
+      (ap (λ (t : Texts). t.stop) whole, none_left prefix rest (says.0.octets_stay ∙ says.1)),
       ap (λ (t : Texts). t.lines) whole ∙ append-nil done,
     ))
 
-pub ends_long : (start a left : Option (List ℕ)) (room after : ℕ) (line : Text) (last : Bool) (front : List ℕ)
+pub ends_long : (start a left : Option (List ℕ)) (room after : ℕ) (line : Text) (last : Bool) (prefix : List ℕ)
     (done : List Text)
     → WhereTold start a (λ octets rest. HasRead octets rest room done)
-    → Reads read.LineLong room after a (prepend_known front left) line last
+    → Reads read.LineLong room after a (prepend_known prefix left) line last
     → WhereTold start left (λ octets rest. Reached stopped_at.LineLong octets rest done)
-ends_long start a left room after line last front done =
-    told_next start a left room after read.LineLong line last front done
+ends_long start a left room after line last prefix done =
+    told_next start a left room after read.LineLong line last prefix done
     (λ octets rest. Reached stopped_at.LineLong octets rest done)
     (λ octets ahead rest before says.
     let whole : texts_of octets ≡ after_lines done (stopped long) =
     stands octets ahead room done (stopped long) before
     (ap (texts_within room) says.1.parts
-    ∙ line_long room says.1.front says.1.rest says.1.no_newline says.1.long says.1.within) in
+    ∙ line_long room says.1.prefix says.1.rest says.1.no_newline says.1.long says.1.within) in
     (ap (λ (t : Texts). t.stop) whole, ap (λ (t : Texts). t.lines) whole ∙ append-nil done))
 
-pub ends_big : (start a left : Option (List ℕ)) (room after : ℕ) (line : Text) (last : Bool) (front : List ℕ)
+pub ends_big : (start a left : Option (List ℕ)) (room after : ℕ) (line : Text) (last : Bool) (prefix : List ℕ)
     (done : List Text)
     → WhereTold start a (λ octets rest. HasRead octets rest room done)
-    → Reads read.TooLong room after a (prepend_known front left) line last
+    → Reads read.TooLong room after a (prepend_known prefix left) line last
     → WhereTold start left (λ octets rest. Reached stopped_at.TooLong octets rest done)
-ends_big start a left room after line last front done =
-    told_next start a left room after read.TooLong line last front done
+ends_big start a left room after line last prefix done =
+    told_next start a left room after read.TooLong line last prefix done
     (λ octets rest. Reached stopped_at.TooLong octets rest done)
     (λ octets ahead rest before says.
     let whole : texts_of octets ≡ after_lines done (stopped big) =
     stands octets ahead room done (stopped big) before
     (ap (λ n. texts_within n ahead) (sym says.1.full)
-    ∙ ap (texts_within (length says.1.front)) says.1.parts
-    ∙ input_big says.1.front says.1.rest says.1.no_newline says.1.short) in
+    ∙ ap (texts_within (length says.1.prefix)) says.1.parts
+    ∙ input_big says.1.prefix says.1.rest says.1.no_newline says.1.short) in
     (ap (λ (t : Texts). t.stop) whole, ap (λ (t : Texts). t.lines) whole ∙ append-nil done))
 
 pub fails_behind : (start a left : Option (List ℕ)) (room : ℕ) (now : Held) (line : Text) (last : Bool)
     (done : List Text) → IsUnfinished now
     → WhereTold start a (λ octets rest. HasRead octets rest room done)
-    → Reads read.ReadFault room now.room a (prepend_known now.front left) line last
+    → Reads read.ReadFault room now.room a (prepend_known now.buffered left) line last
     → WhereTold start left (λ octets rest. Reached stopped_at.ReadFault octets rest done)
 fails_behind start a left room now line last done more =
-    told_next start a left room now.room read.ReadFault line last now.front done
+    told_next start a left room now.room read.ReadFault line last now.buffered done
     (λ octets rest. Reached stopped_at.ReadFault octets rest done)
     (λ octets ahead rest before says. record {
-      unfinished = now.front;
+      unfinished = now.buffered;
       room = room;
       read = subst (λ next. HasRead octets next room done) (sym says.octets_stay) before;
       no_newline = more.no_newline;
@@ -226,16 +216,6 @@ taken_before octets left done fails = record {
   stop = ap (λ (t : Texts). t.stop) (fails.read.says fails.unfinished)
       ∙ unfinished fails.room fails.unfinished fails.no_newline fails.short fails.more;
 }
-
-pub ends_fault : (start a left : Option (List ℕ)) (room : ℕ) (now : Held) (line : Text) (last : Bool)
-    (done : List Text) → IsUnfinished now
-    → WhereTold start a (λ octets rest. HasRead octets rest room done)
-    → Reads read.ReadFault room now.room a (prepend_known now.front left) line last
-    → WhereTold start left IsTaken
-ends_fault start a left room now line last done more before says =
-    told_map start left (λ octets rest. Reached stopped_at.ReadFault octets rest done) IsTaken
-    (λ octets rest at. taken_before octets rest done at)
-    (fails_behind start a left room now line last done more before says)
 
 -- how much room a line takes
 pub room_of_whole : (room after : ℕ) (octets rest line : List ℕ) (last : Bool) → last ≡ false

@@ -62,46 +62,46 @@ last_line room line no_newline short some more =
     ∙ ap (after_lines (line ∷ [])) (sym (at_end room more))
 
 -- more octets than a line may have, in the first of some pieces
-long_pieces : (full : Bool) (front octets : List ℕ) (pieces : List (List ℕ)) → NoNewline front → line_max < length front
+long_pieces : (full : Bool) (prefix octets : List ℕ) (pieces : List (List ℕ)) → NoNewline prefix → line_max < length prefix
     → slice_split ends_line octets ≡ pieces → 0 < length pieces
-    → pieces_texts full (slice_split ends_line (front ++ octets)) ≡ stopped long
-long_pieces full front octets [] no_newline too_long is some = absurd (omega arith)
-long_pieces full front octets (piece ∷ pieces) no_newline too_long is some =
-    ap (pieces_texts full) (first_piece front octets piece pieces no_newline is)
-    ∙ long_first full (front ++ piece) pieces (omega (arith, length-append front piece))
+    → pieces_texts full (slice_split ends_line (prefix ++ octets)) ≡ stopped long
+long_pieces full prefix octets [] no_newline too_long is some = absurd (omega arith)
+long_pieces full prefix octets (piece ∷ pieces) no_newline too_long is some =
+    ap (pieces_texts full) (first_piece prefix octets piece pieces no_newline is)
+    ∙ long_first full (prefix ++ piece) pieces (omega (arith, length-append prefix piece))
 
 -- more octets than a line may have came without newline
-pub line_long : (room : ℕ) (front rest : List ℕ) → NoNewline front → line_max < length front → length front ≤ room
-    → texts_within room (front ++ rest) ≡ stopped long
+pub line_long : (room : ℕ) (prefix rest : List ℕ) → NoNewline prefix → line_max < length prefix → length prefix ≤ room
+    → texts_within room (prefix ++ rest) ≡ stopped long
 unfolding texts_within
-line_long room front rest no_newline too_long within =
-    let beyond = room - length front in
-    let full = nat_le room (length (front ++ rest)) in
-    ap (λ octets. pieces_texts full (slice_split ends_line octets)) (taken_behind room front rest within)
-    ∙ long_pieces full front (take beyond rest)
+line_long room prefix rest no_newline too_long within =
+    let beyond = room - length prefix in
+    let full = nat_le room (length (prefix ++ rest)) in
+    ap (λ octets. pieces_texts full (slice_split ends_line octets)) (taken_behind room prefix rest within)
+    ∙ long_pieces full prefix (take beyond rest)
     (slice_split ends_line (take beyond rest)) no_newline too_long refl
     (omega (arith, length-slice_split ends_line (take beyond rest)))
 
 -- the octets that are looked at end with an unfinished line
-pub input_big : (front rest : List ℕ) → NoNewline front → length front ≤ line_max
-    → texts_within (length front) (front ++ rest) ≡ stopped big
+pub input_big : (prefix rest : List ℕ) → NoNewline prefix → length prefix ≤ line_max
+    → texts_within (length prefix) (prefix ++ rest) ≡ stopped big
 unfolding texts_within
-input_big front rest no_newline short =
-    let full : nat_le (length front) (length (front ++ rest)) ≡ true =
-    let longer = length-append front rest in grind (arith, nat_tests)
+input_big prefix rest no_newline short =
+    let full : nat_le (length prefix) (length (prefix ++ rest)) ≡ true =
+    let longer = length-append prefix rest in grind (arith, nat_tests)
     in
-    let fits : nat_lt line_max (length front) ≡ false = grind (arith, nat_tests) in
-    ap (λ b. pieces_texts b (slice_split ends_line (take (length front) (front ++ rest)))) full
-    ∙ ap (pieces_texts true) (cut_pieces front rest no_newline)
+    let fits : nat_lt line_max (length prefix) ≡ false = grind (arith, nat_tests) in
+    ap (λ b. pieces_texts b (slice_split ends_line (take (length prefix) (prefix ++ rest)))) full
+    ∙ ap (pieces_texts true) (cut_pieces prefix rest no_newline)
     ∙ rw fits
 
 -- an unfinished line is a last one, where it isn't empty
-pub unfinished : (room : ℕ) (front : List ℕ) → NoNewline front → length front ≤ line_max → length front < room
-    → (texts_within room front).stop ≡ ended
+pub unfinished : (room : ℕ) (prefix : List ℕ) → NoNewline prefix → length prefix ≤ line_max → length prefix < room
+    → (texts_within room prefix).stop ≡ ended
 unfinished room [] no_newline short more = ap (λ (t : Texts). t.stop) (at_end room more)
-unfinished room (octet ∷ front) no_newline short more =
-    let beyond = room - length (octet ∷ front) in
-    let regrouped : room ≡ length (octet ∷ front) + beyond = omega arith in
-    ap (λ n. (texts_within n (octet ∷ front)).stop) regrouped
-    ∙ ap (λ (t : Texts). t.stop) (last_line beyond (octet ∷ front) no_newline short (omega arith) (omega arith))
+unfinished room (octet ∷ prefix) no_newline short more =
+    let beyond = room - length (octet ∷ prefix) in
+    let regrouped : room ≡ length (octet ∷ prefix) + beyond = omega arith in
+    ap (λ n. (texts_within n (octet ∷ prefix)).stop) regrouped
+    ∙ ap (λ (t : Texts). t.stop) (last_line beyond (octet ∷ prefix) no_newline short (omega arith) (omega arith))
     ∙ ap (λ (t : Texts). t.stop) (at_end beyond (omega arith))

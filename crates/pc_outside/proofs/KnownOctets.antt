@@ -2,7 +2,7 @@
 use Rattle.std.proofs.Common.{◌≡◌, ℕ, ◌<◌, List, [], ◌∷◌, ◌++◌, length, take, drop, Option, None, Some, sym, ◌∙◌, ap, refl, append_assoc}
 use Rattle.std.proofs.lemmas.List.{take-append-drop, append-nil}
 use Rattle.std.specs.Io.KnownBytes.{Appends, Keeps, Consumes}
-use Rattle.pc_outside.specs.Fronts.{AppendsPrefix}
+use Rattle.pc_outside.specs.Prefixes.{AppendsPrefix}
 
 -- one growth after the other
 pub appends_both : (old mid new : Option (List ℕ)) (xs ys : List ℕ) → Appends old mid xs → Appends mid new ys
@@ -25,37 +25,37 @@ pub appends_none : (known : Option (List ℕ)) → Appends known known []
 appends_none None = tt
 appends_none (Some o) = sym (append-nil o)
 
--- some front of the octets was appended, and the rest wasn't yet
+-- a prefix of the octets was appended, and the rest wasn't yet
 pub record IsWrittenUpTo (old new : Option (List ℕ)) (octets rest : List ℕ) : Type 0 where
-  pub front : List ℕ
-  pub parts : octets ≡ front ++ rest
-  pub appended : Appends old new front
+  pub prefix : List ℕ
+  pub parts : octets ≡ prefix ++ rest
+  pub appended : Appends old new prefix
 
 pub written-start : (known : Option (List ℕ)) (octets : List ℕ) → IsWrittenUpTo known known octets octets
-written-start known octets = record { front = []; parts = refl; appended = appends_none known }
+written-start known octets = record { prefix = []; parts = refl; appended = appends_none known }
 
 pub written-more : (old mid new : Option (List ℕ)) (octets rest : List ℕ) (n : ℕ) → IsWrittenUpTo old mid octets rest
     → Appends mid new (take n rest) → IsWrittenUpTo old new octets (drop n rest)
 written-more old mid new octets rest n so_far more = record {
-  front = so_far.front ++ take n rest;
-  parts = so_far.parts ∙ ap (λ t. so_far.front ++ t) (sym (take-append-drop n rest))
-      ∙ sym (append_assoc so_far.front (take n rest) (drop n rest));
-  appended = appends_both old mid new so_far.front (take n rest) so_far.appended more;
+  prefix = so_far.prefix ++ take n rest;
+  parts = so_far.parts ∙ ap (λ t. so_far.prefix ++ t) (sym (take-append-drop n rest))
+      ∙ sym (append_assoc so_far.prefix (take n rest) (drop n rest));
+  appended = appends_both old mid new so_far.prefix (take n rest) so_far.appended more;
 }
 
 pub written-whole : (old new : Option (List ℕ)) (octets rest : List ℕ) → IsWrittenUpTo old new octets rest
     → length rest ≡ 0 → Appends old new octets
-written-whole old new octets [] so_far none = rw (so_far.parts, append-nil so_far.front) so_far.appended
+written-whole old new octets [] so_far none = rw (so_far.parts, append-nil so_far.prefix) so_far.appended
 written-whole old new octets (x ∷ rest) so_far none = cc
 
 pub written-cut : (old mid new : Option (List ℕ)) (octets rest : List ℕ) → IsWrittenUpTo old mid octets rest
     → 0 < length rest → Keeps mid new → AppendsPrefix old new octets
 written-cut old mid new octets rest so_far some keeps = record {
-  front = so_far.front;
+  prefix = so_far.prefix;
   rest = rest;
   parts = so_far.parts;
   some_left = some;
-  appended = appends_kept old mid new so_far.front so_far.appended keeps;
+  appended = appends_kept old mid new so_far.prefix so_far.appended keeps;
 }
 
 -- one reading after the other

@@ -25,10 +25,10 @@ no_newline-searched octets seen stop count within up_to before searched =
     ∙ is))))
 
 -- a newline stands in no octets that have none
-pub newline_within : (octets line rest front behind : List ℕ) → octets ≡ line ++ 10 ∷ rest → octets ≡ front ++ behind
-    → length line < length front → NoNewline front → ⊥
-newline_within octets line rest front behind ends begins within no_newline =
+pub newline_within : (octets line rest prefix behind : List ℕ) → octets ≡ line ++ 10 ∷ rest → octets ≡ prefix ++ behind
+    → length line < length prefix → NoNewline prefix → ⊥
+newline_within octets line rest prefix behind ends begins within no_newline =
     no_newline (length line) 0 within
-    (sym (get_or_append_left front behind 0 (length line) within)
+    (sym (get_or_append_left prefix behind 0 (length line) within)
     ∙ ap (λ xs. get_or xs (length line) 0) (sym begins ∙ ends)
     ∙ get_or_at line 10 rest 0 (length line) refl)

@@ -65,7 +65,7 @@ none_at_end room after octets rest line true holds end =
 none_of_long : (room after : ℕ) (octets rest line : List ℕ) (last : Bool) → HoldsLine room after octets rest line last
     → BeginsLong room octets → ⊥
 none_of_long room after octets rest line false holds long =
-    newline_within octets line rest long.front long.rest holds.form.parts long.parts
+    newline_within octets line rest long.prefix long.rest holds.form.parts long.parts
     (omega (arith, holds.short, long.long)) long.no_newline
 none_of_long room after octets rest line true holds long =
     omega (
@@ -74,13 +74,13 @@ none_of_long room after octets rest line true holds long =
       long.long,
       ap length (sym holds.form.whole
           ∙ long.parts),
-      length-append long.front long.rest,
+      length-append long.prefix long.rest,
     )
 
 none_in_full : (room after : ℕ) (octets rest line : List ℕ) (last : Bool) → HoldsLine room after octets rest line last
     → FillsRoom room octets → ⊥
 none_in_full room after octets rest line false holds full =
-    newline_within octets line rest full.front full.rest holds.form.parts full.parts
+    newline_within octets line rest full.prefix full.rest holds.form.parts full.parts
     (omega (arith, holds.form.given, full.full)) full.no_newline
 none_in_full room after octets rest line true holds full =
     omega (
@@ -89,16 +89,16 @@ none_in_full room after octets rest line true holds full =
       holds.form.more,
       full.full,
       ap length (sym holds.form.whole ∙ full.parts),
-      length-append full.front full.rest,
+      length-append full.prefix full.rest,
     )
 
 end_or_long : (room : ℕ) (octets : List ℕ) → octets ≡ [] → BeginsLong room octets → ⊥
 end_or_long room octets end long =
-    omega (arith, long.long, ap length (sym end ∙ long.parts), length-append long.front long.rest)
+    omega (arith, long.long, ap length (sym end ∙ long.parts), length-append long.prefix long.rest)
 
 end_or_full : (room : ℕ) (octets : List ℕ) → octets ≡ [] → 0 < room → FillsRoom room octets → ⊥
 end_or_full room octets end more full =
-    omega (arith, more, full.full, ap length (sym end ∙ full.parts), length-append full.front full.rest)
+    omega (arith, more, full.full, ap length (sym end ∙ full.parts), length-append full.prefix full.rest)
 
 long_or_full : (room : ℕ) (octets : List ℕ) → BeginsLong room octets → FillsRoom room octets → ⊥
 long_or_full room octets long full = omega (arith, long.long, long.within, full.short, full.full)

@@ -48,27 +48,27 @@ last_pieces room line no_newline =
     ap (slice_split ends_line) (take_all (length line + room) line (omega arith))
     ∙ slice_split_none ends_line line (all_differ line no_newline)
 
-pub cut_pieces : (front rest : List ℕ) → NoNewline front
-    → slice_split ends_line (take (length front) (front ++ rest)) ≡ front ∷ []
-cut_pieces front rest no_newline =
-    ap (slice_split ends_line) (take-append_seam front rest)
-    ∙ slice_split_none ends_line front (all_differ front no_newline)
+pub cut_pieces : (prefix rest : List ℕ) → NoNewline prefix
+    → slice_split ends_line (take (length prefix) (prefix ++ rest)) ≡ prefix ∷ []
+cut_pieces prefix rest no_newline =
+    ap (slice_split ends_line) (take-append_seam prefix rest)
+    ∙ slice_split_none ends_line prefix (all_differ prefix no_newline)
 
 -- octets that fit, and what is taken behind them
-pub taken_behind : (room : ℕ) (front rest : List ℕ) → length front ≤ room
-    → take room (front ++ rest) ≡ front ++ take (room - length front) rest
-taken_behind room front rest within =
-    let beyond = room - length front in
-    let regrouped : room ≡ length front + beyond = omega arith in
-    ap (λ n. take n (front ++ rest)) regrouped ∙ take-append-add front rest beyond
+pub taken_behind : (room : ℕ) (prefix rest : List ℕ) → length prefix ≤ room
+    → take room (prefix ++ rest) ≡ prefix ++ take (room - length prefix) rest
+taken_behind room prefix rest within =
+    let beyond = room - length prefix in
+    let regrouped : room ≡ length prefix + beyond = omega arith in
+    ap (λ n. take n (prefix ++ rest)) regrouped ∙ take-append-add prefix rest beyond
 
 -- the first piece begins with the octets before any newline
-pub first_piece : (front octets piece : List ℕ) (pieces : List (List ℕ)) → NoNewline front
+pub first_piece : (prefix octets piece : List ℕ) (pieces : List (List ℕ)) → NoNewline prefix
     → slice_split ends_line octets ≡ piece ∷ pieces
-    → slice_split ends_line (front ++ octets) ≡ (front ++ piece) ∷ pieces
+    → slice_split ends_line (prefix ++ octets) ≡ (prefix ++ piece) ∷ pieces
 first_piece [] octets piece pieces no_newline first = first
-first_piece (octet ∷ front) octets piece pieces no_newline first =
-    slice_split-cons_no ends_line octet (front ++ octets)
-    (differs octet (All-head (λ o. o ≢ newline) octet front no_newline))
-    ∙ ap (onto_first octet) (first_piece front octets piece pieces
-    (All-tail (λ o. o ≢ newline) octet front no_newline) first)
+first_piece (octet ∷ prefix) octets piece pieces no_newline first =
+    slice_split-cons_no ends_line octet (prefix ++ octets)
+    (differs octet (All-head (λ o. o ≢ newline) octet prefix no_newline))
+    ∙ ap (onto_first octet) (first_piece prefix octets piece pieces
+    (All-tail (λ o. o ≢ newline) octet prefix no_newline) first)

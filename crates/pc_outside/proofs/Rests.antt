@@ -3,14 +3,14 @@ use Rattle.std.proofs.Common.{◌≡◌, ℕ, ◌+◌, ◌-◌, ◌≤◌, List,
 use Rattle.std.proofs.lemmas.List.{take-append-drop, take_at, drop-drop}
 
 -- what a read gave, and what is left then, is what was left
-pub front_and_rest : (octets front into : List ℕ) (from n : ℕ) → front ≡ take n (drop from octets)
+pub prefix_and_rest : (octets prefix into : List ℕ) (from n : ℕ) → prefix ≡ take n (drop from octets)
     → n ≤ length octets - from
-    → drop from octets ≡ take n (front ++ into) ++ drop (from + n) octets
-front_and_rest octets front into from n is within =
-    let count : length front ≡ n = omega (
+    → drop from octets ≡ take n (prefix ++ into) ++ drop (from + n) octets
+prefix_and_rest octets prefix into from n is within =
+    let count : length prefix ≡ n = omega (
       arith,
       ap length is,
       length-take n (drop from octets),
       length-drop from octets,
     ) in
-    rw (take_at front into n count, is, ← drop-drop n from octets) (sym (take-append-drop n (drop from octets)))
+    rw (take_at prefix into n count, is, ← drop-drop n from octets) (sym (take-append-drop n (drop from octets)))

@@ -4,7 +4,7 @@ pub mod Line
 pub mod LineReads
 pub mod Steps
 pub mod Held
-pub mod Fronts
+pub mod Prefixes
 pub mod Memory
 pub mod Buffer
 pub mod OneAnswer

@@ -1,4 +1,4 @@
--- A line at the front of octets, by the octets alone. A room is how many octets may still be given.
+-- A line at the start of octets, by the octets alone. A room is how many octets may still be given.
 use Rattle.std.specs.Prelude.{◌≡◌, ◌≢◌, ℕ, ◌+◌, ◌<◌, ◌≤◌, Bool, true, false, List, [], ◌∷◌, ◌++◌, length, All}
 use Rattle.pc_outside.specs.Limits.{newline, line_max}
 
@@ -32,18 +32,18 @@ pub record HoldsLine (room after : ℕ) (octets rest line : List ℕ) (last : Bo
 
 -- within the room the octets begin with more than a line may have
 pub record BeginsLong (room : ℕ) (octets : List ℕ) : Type 0 where
-  pub front : List ℕ
+  pub prefix : List ℕ
   pub rest : List ℕ
-  pub parts : octets ≡ front ++ rest
-  pub no_newline : NoNewline front
-  pub long : line_max < length front
-  pub within : length front ≤ room
+  pub parts : octets ≡ prefix ++ rest
+  pub no_newline : NoNewline prefix
+  pub long : line_max < length prefix
+  pub within : length prefix ≤ room
 
 -- the octets fill the room with an unfinished line that isn't too long
 pub record FillsRoom (room : ℕ) (octets : List ℕ) : Type 0 where
-  pub front : List ℕ
+  pub prefix : List ℕ
   pub rest : List ℕ
-  pub parts : octets ≡ front ++ rest
-  pub no_newline : NoNewline front
-  pub short : length front ≤ line_max
-  pub full : length front ≡ room
+  pub parts : octets ≡ prefix ++ rest
+  pub no_newline : NoNewline prefix
+  pub short : length prefix ≤ line_max
+  pub full : length prefix ≡ room

@@ -1,7 +1,7 @@
 // The buffer that lines are read through.
-ghost use Rattle.std.specs.Prelude.{◌≡◌, ◌+◌, ◌-◌, ◌<◌, ◌≤◌, ◌++◌, ◌∷◌, [], length, take, drop, slice_range, vec_len};
+ghost use Rattle.std.specs.Prelude.{◌≡◌, ◌+◌, ◌-◌, ◌<◌, ◌≤◌, ◌∷◌, [], length, take, drop, slice_range};
 ghost use Rattle.std.specs.Prelude.{IfOk, IfSome, IfNone, OnErr};
-ghost use Rattle.std.specs.Io.KnownBytes.{Consumes, IsAtEnd, Keeps};
+ghost use Rattle.std.specs.Io.KnownBytes.{IsAtEnd, Keeps};
 ghost use Rattle.memchr.specs.Find.{IsFirstByte, is_byte};
 ghost use Rattle.pc_outside.specs.Faults.{Rises};
 ghost use Rattle.pc_outside.specs.Limits.{newline, line_max};
@@ -56,7 +56,7 @@ impl Model for LineBuf {
     ghost view = { λ buf. record {
       line = slice_range buf.octets.items buf.line_from buf.line_to;
       last = buf.last;
-      front = slice_range buf.octets.items buf.from buf.to;
+      buffered = slice_range buf.octets.items buf.from buf.to;
       room = input_max + (buf.to - buf.from) - buf.taken;
     } };
 
@@ -77,7 +77,7 @@ impl LineBuf {
 
     /// A buffer that nothing was read into. All its memory is taken here.
     pub fn new(alloc: Global) -> Result<LineBuf, NoMemory>
-        ensures { IfOk result (λ buf. buf ≡ record { line = []; last = false; front = []; room = input_max }) }
+        ensures { IfOk result (λ buf. buf ≡ record { line = []; last = false; buffered = []; room = input_max }) }
     {
         LineBuf::of_len(alloc, BUFFER_LEN)
     }
@@ -85,7 +85,7 @@ impl LineBuf {
     /// The same of a buffer that holds so many octets, more than the longest line.
     pub fn of_len(alloc: Global, len: usize) -> Result<LineBuf, NoMemory>
         requires { line_max < len }
-        ensures { IfOk result (λ buf. buf ≡ record { line = []; last = false; front = []; room = input_max }) }
+        ensures { IfOk result (λ buf. buf ≡ record { line = []; last = false; buffered = []; room = input_max }) }
     {
         let octets = vec![in alloc; 0u8; len]?;
         Ok(LineBuf {
@@ -116,30 +116,30 @@ impl LineBuf {
 
     /// How many octets were read so far.
     pub fn taken(&self) -> u64
-        ensures { result + self.now.room ≡ input_max + length self.now.front }
+        ensures { result + self.now.room ≡ input_max + length self.now.buffered }
     {
         self.taken
     }
 
     /// The octets read and not yet given.
-    pub fn front(&self) -> &[u8]
-        ensures { result.now ≡ self.now.front }
+    pub fn buffered(&self) -> &[u8]
+        ensures { result.now ≡ self.now.buffered }
     {
         &self.octets[self.from..self.to]
     }
 
     /// Gives up the first line held, whose text has this length.
     pub fn give(&mut self, len: usize)
-        requires { len < length self.old.front }
-        ensures front { self.new.front ≡ drop (len + 1) self.old.front }
+        requires { len < length self.old.buffered }
+        ensures buffered { self.new.buffered ≡ drop (len + 1) self.old.buffered }
         ensures room { self.old.room ≡ len + 1 + self.new.room }
     {
         let newline = self.from + len;
         self.from = newline + 1;
     }
 
-    pub(super) fn front_len(&self) -> usize
-        ensures { result ≡ length self.now.front }
+    pub(super) fn buffered_len(&self) -> usize
+        ensures { result ≡ length self.now.buffered }
     {
         self.to - self.from
     }
@@ -157,22 +157,22 @@ impl LineBuf {
     // are known to end no line. `None`: more are needed.
     #[inline(always)]
     pub(super) fn settle(&mut self, seen: usize) -> Option<LineRead>
-        requires seen_held { seen ≤ length self.old.front }
+        requires seen_held { seen ≤ length self.old.buffered }
         requires seen_short { seen ≤ line_max }
-        requires seen_none { NoNewline (take seen self.old.front) }
+        requires seen_none { NoNewline (take seen self.old.buffered) }
 
         ensures settled { IfSome result (λ read. Settles read self.old self.new) }
         ensures waits { IfNone result ((self.new ≡ self.old) × IsUnfinished self.new) }
     {
-        let front = &self.octets[self.from..self.to];
-        match line_len(front, seen) {
+        let buffered = &self.octets[self.from..self.to];
+        match line_len(buffered, seen) {
             Some(len) => {
                 self.line_from = self.from;
                 self.line_to = self.from + len;
                 self.from = self.line_to + 1;
                 Some(LineRead::Line)
             }
-            None if front.len() > LINE_MAX => Some(LineRead::LineLong),
+            None if buffered.len() > LINE_MAX => Some(LineRead::LineLong),
             None if self.taken == INPUT_MAX => Some(LineRead::TooLong),
             None => None,
         }
@@ -223,19 +223,19 @@ impl LineBuf {
 
 /// Where the first newline stands, if within a line's length. The first `seen` octets are none.
 #[inline(always)]
-pub fn line_len(front: &[u8], seen: usize) -> Option<usize>
-    requires seen_held { seen ≤ length front.now }
+pub fn line_len(octets: &[u8], seen: usize) -> Option<usize>
+    requires seen_held { seen ≤ length octets.now }
     requires seen_short { seen ≤ line_max }
-    requires seen_none { NoNewline (take seen front.now) }
+    requires seen_none { NoNewline (take seen octets.now) }
 
-    ensures within { IfSome result (λ len. len < length front.now) }
+    ensures within { IfSome result (λ len. len < length octets.now) }
     ensures short { IfSome result (λ len. len ≤ line_max) }
-    ensures line { IfSome result (λ len. NoNewline (take len front.now)) }
-    ensures newline { IfSome result (λ len. drop len front.now ≡ newline ∷ drop (len + 1) front.now) }
-    ensures none { IfNone result (NoNewline (take (line_max + 1) front.now)) }
+    ensures line { IfSome result (λ len. NoNewline (take len octets.now)) }
+    ensures newline { IfSome result (λ len. drop len octets.now ≡ newline ∷ drop (len + 1) octets.now) }
+    ensures none { IfNone result (NoNewline (take (line_max + 1) octets.now)) }
 {
-    let end = (LINE_MAX + 1).min(front.len());
-    match first_newline(&front[seen..end]) {
+    let end = (LINE_MAX + 1).min(octets.len());
+    match first_newline(&octets[seen..end]) {
         Some(at) => Some(seen + at),
         None => None,
     }

@@ -1,5 +1,5 @@
 // A source and a sink over memory. Both tell their octets, and fail where they are told to.
-ghost use Rattle.std.specs.Prelude.{◌≡◌, ◌↔◌, ◌⊎◌, ◌<◌, ◌≤◌, ◌++◌, ◌-◌, [], Some, length, take, drop, min, Contains};
+ghost use Rattle.std.specs.Prelude.{◌≡◌, ◌↔◌, ◌⊎◌, ◌<◌, ◌≤◌, ◌-◌, [], Some, length, drop, min, Contains};
 ghost use Rattle.std.specs.Prelude.{IsErr, IsOkAnd, IfOk, OnOk, OnErr};
 ghost use Rattle.std.specs.Io.KnownBytes.{ReadConsumes, WriteAppends};
 ghost use Rattle.pc_outside.specs.Faults.{Rises};

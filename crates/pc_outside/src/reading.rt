@@ -34,12 +34,12 @@ pub enum LineRead {
 #[inline(always)]
 pub fn read_line<S: Source>(source: &mut S, buf: &mut LineBuf) -> LineRead
     // The octets that the source tells, behind those held, give the answer.
-    ensures octets { Reads result buf.old.room buf.new.room (prepend_known buf.old.front (S.left source.old))
-        (prepend_known buf.new.front (S.left source.new)) buf.new.line buf.new.last }
+    ensures octets { Reads result buf.old.room buf.new.room (prepend_known buf.old.buffered (S.left source.old))
+        (prepend_known buf.new.buffered (S.left source.new)) buf.new.line buf.new.last }
 
     // Whatever it tells, those held and some that it gave do.
-    ensures held { (given : List ℕ) × Answers result buf.old.room buf.new.room (buf.old.front ++ given)
-        buf.new.front buf.new.line buf.new.last }
+    ensures held { (given : List ℕ) × Answers result buf.old.room buf.new.room (buf.old.buffered ++ given)
+        buf.new.buffered buf.new.line buf.new.last }
 
     // A fault is the source's, comes only where more octets are needed, and is told at once.
     ensures later { S.faults source.old ≤ S.faults source.new }
@@ -50,7 +50,7 @@ pub fn read_line<S: Source>(source: &mut S, buf: &mut LineBuf) -> LineRead
     // After the last two answers each later one is the same, and nothing is read.
     ensures stopped { (result ≡ LineRead.LineLong) ⊎ (result ≡ LineRead.TooLong) → HasStopped result buf.new }
     ensures stays { (stop : LineRead) → HasStopped stop buf.old
-        → (result ≡ stop) × (source.new ≡ source.old) × (buf.new.front ≡ buf.old.front) }
+        → (result ≡ stop) × (source.new ≡ source.old) × (buf.new.buffered ≡ buf.old.buffered) }
 {
     buf.forget_line();
     match buf.settle(0) {
@@ -66,10 +66,10 @@ fn read_more<S: Source>(source: &mut S, buf: &mut LineBuf) -> LineRead
     requires not_last { buf.old.last ≡ false }
     requires unfinished { IsUnfinished buf.old }
 
-    ensures octets { Reads result buf.old.room buf.new.room (prepend_known buf.old.front (S.left source.old))
-        (prepend_known buf.new.front (S.left source.new)) buf.new.line buf.new.last }
-    ensures held { (given : List ℕ) × Answers result buf.old.room buf.new.room (buf.old.front ++ given)
-        buf.new.front buf.new.line buf.new.last }
+    ensures octets { Reads result buf.old.room buf.new.room (prepend_known buf.old.buffered (S.left source.old))
+        (prepend_known buf.new.buffered (S.left source.new)) buf.new.line buf.new.last }
+    ensures held { (given : List ℕ) × Answers result buf.old.room buf.new.room (buf.old.buffered ++ given)
+        buf.new.buffered buf.new.line buf.new.last }
 
     ensures later { S.faults source.old ≤ S.faults source.new }
     ensures fault { result ≡ LineRead.ReadFault → Rises (S.faults source.old) (S.faults source.new) }
@@ -78,7 +78,7 @@ fn read_more<S: Source>(source: &mut S, buf: &mut LineBuf) -> LineRead
     ensures stopped { (result ≡ LineRead.LineLong) ⊎ (result ≡ LineRead.TooLong) → HasStopped result buf.new }
 {
     loop {
-        let seen = buf.front_len();
+        let seen = buf.buffered_len();
         match buf.refill(source) {
             Ok(0) => return buf.finish(),
             Ok(_) => {}

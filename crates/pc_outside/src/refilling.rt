@@ -6,9 +6,9 @@ ghost use Rattle.pc_outside.specs.Faults.{Rises};
 
 use super::sources::{Failed, Source};
 
-/// Moves the octets `from..to`, which are held, to the front, and reads behind them: at most so many
+/// Moves the octets `from..to`, which are held, to the start, and reads behind them: at most so many
 /// octets as are asked for, and none only at the end of the source. Answers how many. Where the source
-/// failed, those held are at the front, and nothing is lost.
+/// failed, those held are at the start, and nothing is lost.
 pub fn read_behind<S: Source>(
     source: &mut S,
     octets: &mut Vec<u8>,

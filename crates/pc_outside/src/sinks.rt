@@ -13,7 +13,7 @@ pub trait Sink {
     /// How often a write has failed. At 2^64 − 1 it stays.
     ghost faults: { Self → ℕ };
 
-    /// Writes some octets from the front of `from`, and answers how many they are: at least one,
+    /// Writes some octets from the start of `from`, and answers how many they are: at least one,
     /// where `from` isn't empty. After `Failed` nothing was written.
     fn write(&mut self, from: &[u8]) -> Result<usize, Failed>
         ensures count { IfOk result (λ n. n ≤ length from.now) }

@@ -15,7 +15,7 @@ pub trait Source {
     /// How often a read has failed. At 2^64 − 1 it stays.
     ghost faults: { Self → ℕ };
 
-    /// Reads the next octets to the front of `into`, and answers how many they are.
+    /// Reads the next octets to the start of `into`, and answers how many they are.
     /// `Ok(0)` on a slice that isn't empty is the end. After `Failed` nothing is lost.
     fn read(&mut self, into: &mut [u8]) -> Result<usize, Failed>
         ensures count { IfOk result (λ n. n ≤ length into.old) }

@@ -2,7 +2,7 @@
 ghost use Rattle.std.specs.Prelude.{◌≤◌, OnOk, OnErr};
 ghost use Rattle.std.specs.Io.KnownBytes.{Appends};
 ghost use Rattle.pc_outside.specs.Faults.{Rises};
-ghost use Rattle.pc_outside.specs.Fronts.{AppendsPrefix};
+ghost use Rattle.pc_outside.specs.Prefixes.{AppendsPrefix};
 
 use super::sinks::Sink;
 

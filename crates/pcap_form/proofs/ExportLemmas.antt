@@ -10,13 +10,13 @@ use Rattle.trace_lines.specs.Kind as kind
 use Rattle.trace_lines.specs.Line.{Line, IsKind}
 use Rattle.pcap_form.specs.declared.head.CaptureHead.{CaptureHead}
 use Rattle.pcap_form.specs.Packet.{control_port, user_port, ip_kind, is_for_user}
-use Rattle.pcap_form.specs.Record.{Record, nothing, whole, front_of, captured_in, captured_of, record_in, record_len, snapshot_max, time_of}
+use Rattle.pcap_form.specs.Record.{Record, nothing, whole, first_of, captured_in, captured_of, record_in, record_len, snapshot_max, time_of}
 use Rattle.pcap_form.specs.Capture.{Capture, clean, capture_of, records_of, after_records}
 use Rattle.pcap_form.specs.Trace.{Stamped, lines_from, lines_of, moment_of}
 use Rattle.pcap_form.specs.Export.{captured, export_of, framed, from_first, header, is_packet, kept, kept_as, message_max, record_head, record_of, taken_off, wrapped}
 use Rattle.pcap_form.specs.Law.{InOrder, ComesBack}
-use Rattle.pcap_form.proofs.FrontLemmas.{front_whole}
-use Rattle.pcap_form.proofs.CaptureLemmas.{records_front}
+use Rattle.pcap_form.proofs.FirstLemmas.{prefix_whole}
+use Rattle.pcap_form.proofs.CaptureLemmas.{records_prefix}
 use Rattle.pcap_form.proofs.PacketLemmas.{packet_fits, user_packet, wrapped_packet, length-wrapped}
 
 -- the header that is written
@@ -40,12 +40,12 @@ unfolding record_head
 head-captured moment len octets small = be32-again len [] small
 
 -- the record of captured octets stands in front of what is behind it
-record-front : (moment : ℕ) (octets rest : List ℕ) (said : LineKind) → moment < 2 ^ 50 → length octets ≤ snapshot_max
+record-prefix : (moment : ℕ) (octets rest : List ℕ) (said : LineKind) → moment < 2 ^ 50 → length octets ≤ snapshot_max
     → ip_kind octets ≡ Some said
-    → front_of raw (record_head moment (length octets) ++ octets ++ rest) ≡ whole
+    → first_of raw (record_head moment (length octets) ++ octets ++ rest) ≡ whole
     (record { time = moment; said = Some said }) rest
 unfolding record_head
-record-front moment octets rest said early fits is =
+record-prefix moment octets rest said early fits is =
     let n = length octets in
     let held = record_head moment n ++ octets in
     let counted : captured_of raw held ≡ n = head-captured moment n octets (omega (arith, fits)) in
@@ -59,7 +59,7 @@ record-front moment octets rest said early fits is =
     ap (λ k. drop (record_len + k) held ++ rest) counted
     ∙ ap (λ o. o ++ rest) (drop-append-add (record_head moment n) octets n ∙ drop_all n octets (omega arith))
     in
-    front_whole raw held rest (omega (arith, counted)) (omega (arith, counted, fits))
+    prefix_whole raw held rest (omega (arith, counted)) (omega (arith, counted, fits))
     ∙ ap (λ r. whole r (drop (record_len + captured_of raw held) held ++ rest)) one
     ∙ ap (λ o. whole (record { time = moment; said = Some said }) o) behind
 
@@ -111,13 +111,13 @@ line-records : (moment : ℕ) (said : LineKind) (octets : Option (List ℕ)) (re
     → records_of raw (framed moment octets ++ rest) ≡ after_records (recorded moment said octets) (records_of raw rest)
 line-records moment said None rest early so = refl
 line-records moment said (Some octets) rest early so =
-    records_front raw (record_head moment (length octets) ++ octets ++ rest)
+    records_prefix raw (record_head moment (length octets) ++ octets ++ rest)
     (whole (record { time = moment; said = Some said }) rest)
-    (record-front moment octets rest said early so.0 so.1)
+    (record-prefix moment octets rest said early so.0 so.1)
 
 all-records : (least : ℕ) (lines : List Line) → InOrder least lines
     → records_of raw (flat_map record_of lines) ≡ record { records = records lines; tail = clean }
-all-records least [] in_order = records_front raw [] nothing refl
+all-records least [] in_order = records_prefix raw [] nothing refl
 all-records least (line ∷ lines) in_order =
     line-records line.moment line.kind (captured line.kind) (flat_map record_of lines) in_order.0.moment
     (kept_so line.kind in_order.0.kind)

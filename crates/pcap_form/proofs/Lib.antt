@@ -1,4 +1,4 @@
-pub mod FrontLemmas
+pub mod FirstLemmas
 pub mod CaptureLemmas
 pub mod PacketLemmas
 pub mod ExportLemmas

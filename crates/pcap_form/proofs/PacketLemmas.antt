@@ -24,8 +24,8 @@ ip_kind-whole : (octets : List ℕ) → first_fault octets ≡ None → total_le
     → ip_kind octets ≡ packet_kind octets
 unfolding ip_kind
 ip_kind-whole octets faultless total =
-    let front : packet_of octets ≡ octets = take_all (total_length octets) octets (omega (arith, total)) in
-    rw (faultless, front) refl
+    let prefix : packet_of octets ≡ octets = take_all (total_length octets) octets (omega (arith, total)) in
+    rw (faultless, prefix) refl
 
 -- both tests hold where one after the other does
 both : (one other : Bool) → one && other ≡ true → (one ≡ true) × (other ≡ true)

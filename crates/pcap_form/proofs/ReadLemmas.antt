@@ -6,21 +6,21 @@ use Rattle.pcap_form.specs.declared.record.RecordHead.{RecordHead}
 use Rattle.pcap_form.specs.Head.{head_of}
 use Rattle.pcap_form.specs.Record.{Record, whole, captured_in, captured_of, record_in, record_len, snapshot_max}
 use Rattle.pcap_form.specs.Capture.{after_records, behind_head, capture_of, records_of}
-use Rattle.pcap_form.proofs.FrontLemmas.{captured-behind, front_whole, record-behind}
-use Rattle.pcap_form.proofs.CaptureLemmas.{after_records-push, capture_behind, records_front}
+use Rattle.pcap_form.proofs.FirstLemmas.{captured-behind, prefix_whole, record-behind}
+use Rattle.pcap_form.proofs.CaptureLemmas.{after_records-push, capture_behind, records_prefix}
 use Rattle.pcap_form.specs.Reading.{IsThere}
 use Rattle.pcap_form.specs.Progress.{HasRead}
 
 -- a record that is held whole is the first of what it begins
-first_record : (head : CaptureHead) (front behind : List ℕ) → length front ≡ record_len + captured_of head front
-    → captured_of head front ≤ snapshot_max
-    → records_of head (front ++ behind) ≡ after_records (record_in head front ∷ []) (records_of head behind)
-first_record head front behind all fits =
-    let none : drop (record_len + captured_of head front) front ≡ [] = drop_all
-    (record_len + captured_of head front) front (omega (arith, all)) in
-    records_front head (front ++ behind) (whole (record_in head front) behind)
-    (front_whole head front behind (omega (arith, all)) fits
-    ∙ ap (λ rest. whole (record_in head front) (rest ++ behind)) none)
+first_record : (head : CaptureHead) (prefix behind : List ℕ) → length prefix ≡ record_len + captured_of head prefix
+    → captured_of head prefix ≤ snapshot_max
+    → records_of head (prefix ++ behind) ≡ after_records (record_in head prefix ∷ []) (records_of head behind)
+first_record head prefix behind all fits =
+    let none : drop (record_len + captured_of head prefix) prefix ≡ [] = drop_all
+    (record_len + captured_of head prefix) prefix (omega (arith, all)) in
+    records_prefix head (prefix ++ behind) (whole (record_in head prefix) behind)
+    (prefix_whole head prefix behind (omega (arith, all)) fits
+    ∙ ap (λ rest. whole (record_in head prefix) (rest ++ behind)) none)
 
 -- the octets of a record that is held, and what they tell
 one_record : (head : CaptureHead) (one : RecordHead) (held behind : List ℕ) → IsThere one head held
@@ -28,17 +28,17 @@ one_record : (head : CaptureHead) (one : RecordHead) (held behind : List ℕ) �
     (records_of head behind)
 one_record head one held behind there =
     let n = record_len + one.captured in
-    let front = take n held in
-    let whole_again : front ++ drop n held ≡ held = take-append-drop n held in
-    let long : length front ≡ n = omega (arith, length-take n held, there.all) in
-    let captured : captured_of head held ≡ captured_of head front =
-    ap (captured_of head) (sym whole_again) ∙ captured-behind head front (drop n held) (omega (arith, long))
+    let prefix = take n held in
+    let whole_again : prefix ++ drop n held ≡ held = take-append-drop n held in
+    let long : length prefix ≡ n = omega (arith, length-take n held, there.all) in
+    let captured : captured_of head held ≡ captured_of head prefix =
+    ap (captured_of head) (sym whole_again) ∙ captured-behind head prefix (drop n held) (omega (arith, long))
     in
-    let all : length front ≡ record_len + captured_of head front = omega (arith, long, captured, there.captured) in
-    let same : record_in head held ≡ record_in head front =
-    ap (record_in head) (sym whole_again) ∙ record-behind head front (drop n held) (omega (arith, all))
+    let all : length prefix ≡ record_len + captured_of head prefix = omega (arith, long, captured, there.captured) in
+    let same : record_in head held ≡ record_in head prefix =
+    ap (record_in head) (sym whole_again) ∙ record-behind head prefix (drop n held) (omega (arith, all))
     in
-    first_record head front behind all (omega (arith, captured, there.captured, there.fits))
+    first_record head prefix behind all (omega (arith, captured, there.captured, there.fits))
     ∙ ap (λ r. after_records (r ∷ []) (records_of head behind)) (sym same)
 
 -- a record is gone through too
@@ -49,15 +49,15 @@ pub read_more : (head : CaptureHead) (room after : ℕ) (done : List Record) (on
     → HasRead octets (drop (record_len + one.captured) held ++ rest) head after (done ++ record_in head held ∷ [])
 read_more head room after done one held octets rest there given read =
     let n = record_len + one.captured in
-    let front = take n held in
-    let whole_again : front ++ drop n held ≡ held = take-append-drop n held in
+    let prefix = take n held in
+    let whole_again : prefix ++ drop n held ≡ held = take-append-drop n held in
     record {
-      gone = read.gone ++ front;
+      gone = read.gone ++ prefix;
       parts = read.parts ∙ ap (λ h. read.gone ++ (h ++ rest)) (sym whole_again)
-          ∙ ap (λ h. read.gone ++ h) (append_assoc front (drop n held) rest)
-          ∙ sym (append_assoc read.gone front (drop n held ++ rest));
-      taken = omega (arith, read.taken, given, length-append read.gone front, length-take n held, there.all);
-      says = λ behind. ap capture_of (append_assoc read.gone front behind) ∙ read.says (front ++ behind)
+          ∙ ap (λ h. read.gone ++ h) (append_assoc prefix (drop n held) rest)
+          ∙ sym (append_assoc read.gone prefix (drop n held ++ rest));
+      taken = omega (arith, read.taken, given, length-append read.gone prefix, length-take n held, there.all);
+      says = λ behind. ap capture_of (append_assoc read.gone prefix behind) ∙ read.says (prefix ++ behind)
           ∙ ap (after_records done) (one_record head one held behind there)
           ∙ after_records-push done (record_in head held) (records_of head behind);
     }
@@ -74,11 +74,11 @@ pub read_header : (head : CaptureHead) (after : ℕ) (held octets rest : List �
     → head_of (take 24 held) ≡ Some head
     → after + 24 ≡ 2 ^ 40 → octets ≡ held ++ rest → HasRead octets (drop 24 held ++ rest) head after []
 read_header head after held octets rest there is given parts =
-    let front = take 24 held in
-    let long : length front ≡ 24 = omega (arith, length-take 24 held, there) in
+    let prefix = take 24 held in
+    let long : length prefix ≡ 24 = omega (arith, length-take 24 held, there) in
     record {
-      gone = front;
-      parts = parts ∙ ap (λ h. h ++ rest) (sym (take-append-drop 24 held)) ∙ append_assoc front (drop 24 held) rest;
+      gone = prefix;
+      parts = parts ∙ ap (λ h. h ++ rest) (sym (take-append-drop 24 held)) ∙ append_assoc prefix (drop 24 held) rest;
       taken = omega (arith, long, given);
-      says = λ behind. capture_behind front behind long ∙ ap (λ h. behind_head h behind) is;
+      says = λ behind. capture_behind prefix behind long ∙ ap (λ h. behind_head h behind) is;
     }

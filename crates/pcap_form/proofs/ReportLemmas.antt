@@ -3,7 +3,7 @@ use Rattle.std.proofs.Common.{◌≡◌, ℕ, List, [], ◌∷◌, ◌++◌, Opt
 use Rattle.std.specs.Io.KnownBytes.{Appends}
 use Rattle.std.proofs.KnownBytes.{Appends-nil, Appends-trans}
 use Rattle.std.proofs.lemmas.Grind.{flat_map-append}
-use Rattle.pc_outside.specs.Fronts.{AppendsPrefix}
+use Rattle.pc_outside.specs.Prefixes.{AppendsPrefix}
 use Rattle.pcap_form.specs.Record.{Record}
 use Rattle.pcap_form.specs.Capture.{input_capture}
 use Rattle.pcap_form.specs.Trace.{Stamped, lines_from, lines_of, moment_of, stamped, stamped_text, text_of, trace_of}
@@ -18,28 +18,28 @@ use Rattle.pcap_form.specs.declared.importing.UnwrittenTrace.TheVariants as unwr
 use Rattle.pc_outside.proofs.ToldLemmas.{told_map}
 
 -- the lines of first records are the first lines
-lines-front : (first least : ℕ) (done more : List Record)
+lines-prefix : (first least : ℕ) (done more : List Record)
     → (rest : List Stamped) × (lines_from first least (done ++ more) ≡ lines_from first least done ++ rest)
-lines-front first least [] more = (lines_from first least more, refl)
-lines-front first least (one ∷ done) more =
+lines-prefix first least [] more = (lines_from first least more, refl)
+lines-prefix first least (one ∷ done) more =
     let moment = moment_of first least one.time in
-    let r = lines-front first moment done more in (
+    let r = lines-prefix first moment done more in (
       r.0,
       ap (λ ls. stamped moment one.said ++ ls) r.1 ∙ sym
           (append_assoc (stamped moment one.said) (lines_from first moment done) r.0),
     )
 
-trace-front : (done more : List Record) → (rest : List ℕ) × (trace_of (done ++ more) ≡ trace_of done ++ rest)
-trace-front [] more = (trace_of more, refl)
-trace-front (one ∷ done) more =
-    let r = lines-front one.time 0 (one ∷ done) more in
+trace-prefix : (done more : List Record) → (rest : List ℕ) × (trace_of (done ++ more) ≡ trace_of done ++ rest)
+trace-prefix [] more = (trace_of more, refl)
+trace-prefix (one ∷ done) more =
+    let r = lines-prefix one.time 0 (one ∷ done) more in
     (text_of r.0, ap text_of r.1 ∙ flat_map-append stamped_text (lines_of (one ∷ done)) r.0)
 
 -- the trace of first records is a prefix of the input's
 text_begins : (octets : List ℕ) (done : List Record) → Begins octets done
     → (rest : List ℕ) × (input_text octets ≡ trace_of done ++ rest)
 text_begins octets done begins =
-    let r = trace-front done begins.0 in
+    let r = trace-prefix done begins.0 in
     (r.0, ap trace_of begins.1 ∙ r.1)
 
 -- a prefix of that trace is one of the input's
@@ -89,14 +89,14 @@ pub ends_cut : (stop : Stopped) (start left old mid new : Option (List ℕ)) (wa
     → Ends stop start left old mid waiting
     → AppendsPrefix mid new waiting → Runs imported.WriteFault start left old new
 ends_cut stop start left old mid new waiting ends cut = record {
-  text = trace_of ends.closed ++ cut.front;
-  written = Appends-trans old mid new (trace_of ends.closed) cut.front ends.written cut.appended;
+  text = trace_of ends.closed ++ cut.prefix;
+  written = Appends-trans old mid new (trace_of ends.closed) cut.prefix ends.written cut.appended;
   report = told_map start left (λ octets rest. Reached stop octets rest ends.done)
-      (λ octets rest. IsCutText octets (trace_of ends.closed ++ cut.front))
-      (λ octets rest reached. cut_text octets ends.done (trace_of ends.closed ++ cut.front) cut.rest
+      (λ octets rest. IsCutText octets (trace_of ends.closed ++ cut.prefix))
+      (λ octets rest reached. cut_text octets ends.done (trace_of ends.closed ++ cut.prefix) cut.rest
       (begins_at stop octets rest ends.done reached)
       (ends.waits ∙ ap (λ t. trace_of ends.closed ++ t) cut.parts
-      ∙ sym (append_assoc (trace_of ends.closed) cut.front cut.rest))) ends.reached;
+      ∙ sym (append_assoc (trace_of ends.closed) cut.prefix cut.rest))) ends.reached;
 }
 
 reports_without : (why : UnwrittenTrace) (octets left text : List ℕ) (done : List Record) → Begins octets done

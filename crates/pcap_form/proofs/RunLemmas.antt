@@ -3,7 +3,7 @@ use Rattle.std.proofs.Common.{◌≡◌, ℕ, ◌+◌, ◌≤◌, ◌^◌, inl, 
 use Rattle.std.specs.Io.KnownBytes.{Appends, IsAtEnd, prepend_known}
 use Rattle.std.proofs.KnownBytes.{Appends-nil, Appends-trans}
 use Rattle.std.proofs.lemmas.Grind.{flat_map-append}
-use Rattle.pc_outside.specs.Fronts.{AppendsPrefix}
+use Rattle.pc_outside.specs.Prefixes.{AppendsPrefix}
 use Rattle.pcap_form.specs.declared.head.CaptureHead.{CaptureHead}
 use Rattle.pcap_form.specs.declared.record.RecordHead.{RecordHead}
 use Rattle.pcap_form.specs.Head.{head_of}
@@ -271,15 +271,15 @@ cut_at unwritten.NoMemory start left old mid new head first least room after wai
 cut_at unwritten.WriteFault start left old mid new head first least room after waiting text done one held there given
     so_far is cut kept =
     let it = record_in head held in
-    let front = cut refl in
+    let prefix = cut refl in
     let more = lines_more first least done it so_far.lines in
     let lines = stamped (moment_of (unwrap_or first it.time) least it.time) it.said in
     let trace : trace_of (done ++ it ∷ []) ≡ trace_of so_far.closed ++ (waiting ++ text_of lines) =
     trace_more done it lines so_far.closed waiting more.0 so_far.waits
     in
-    let text_is : waiting ++ text_of lines ≡ front.front ++ front.rest =
+    let text_is : waiting ++ text_of lines ≡ prefix.prefix ++ prefix.rest =
     sym (is ∙ ap (λ t. waiting ++ text_of (stamped (moment_of (unwrap_or first t) least t) it.said)) there.time)
-    ∙ front.parts
+    ∙ prefix.parts
     in
     record {
       done = done ++ it ∷ [];
@@ -288,11 +288,11 @@ cut_at unwritten.WriteFault start left old mid new head first least room after w
           (λ octets rest told read. begins head after (done ++ it ∷ []) octets
           (drop (record_len + one.captured) held ++ rest)
           (read_more head room after done one held octets rest there given read)) so_far.read;
-      text = trace_of so_far.closed ++ front.front;
-      written = Appends-trans old mid new (trace_of so_far.closed) front.front so_far.written front.appended;
+      text = trace_of so_far.closed ++ prefix.prefix;
+      written = Appends-trans old mid new (trace_of so_far.closed) prefix.prefix so_far.written prefix.appended;
       cut = (
-        front.rest,
+        prefix.rest,
         trace ∙ ap (λ t. trace_of so_far.closed ++ t) text_is
-            ∙ sym (append_assoc (trace_of so_far.closed) front.front front.rest),
+            ∙ sym (append_assoc (trace_of so_far.closed) prefix.prefix prefix.rest),
       );
     }

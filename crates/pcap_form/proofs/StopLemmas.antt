@@ -5,10 +5,10 @@ use Rattle.std.proofs.lemmas.Bool.Decides.{nat_tests}
 use Rattle.std.proofs.lemmas.List.{take_all, take-take, take-append-le, take-append-drop, length-take}
 use Rattle.pcap_form.specs.declared.head.CaptureHead.{CaptureHead}
 use Rattle.pcap_form.specs.Head.{head_of}
-use Rattle.pcap_form.specs.Record.{Record, Front, nothing, part, wrong, whole, captured_of, front_of, record_len, snapshot_max}
-use Rattle.pcap_form.specs.Capture.{Capture, Tail, clean, cut, broken, bad, big, after_records, behind_head, capture_of, from_front, input_capture, looked_at, only, records_of, stop_at, stop_of}
-use Rattle.pcap_form.proofs.FrontLemmas.{front_wrong}
-use Rattle.pcap_form.proofs.CaptureLemmas.{capture_behind, capture_short, records_front}
+use Rattle.pcap_form.specs.Record.{Record, FirstRecord, nothing, part, wrong, whole, captured_of, first_of, record_len, snapshot_max}
+use Rattle.pcap_form.specs.Capture.{Capture, Tail, clean, cut, broken, bad, big, after_records, behind_head, capture_of, from_record, input_capture, looked_at, only, records_of, stop_at, stop_of}
+use Rattle.pcap_form.proofs.FirstLemmas.{prefix_wrong}
+use Rattle.pcap_form.proofs.CaptureLemmas.{capture_behind, capture_short, records_prefix}
 use Rattle.pcap_form.specs.Reading.{Waits}
 use Rattle.pcap_form.specs.Progress.{Begins, HasRead, Reached}
 use Rattle.pcap_form.specs.declared.importing.Stopped.TheVariants as stopped
@@ -97,13 +97,13 @@ stops_ended head room done octets held rest none_held none_left more read =
     let now : HasRead octets [] head room done = subst (λ ahead. HasRead octets ahead head room done)
     (ap (λ h. h ++ rest) none_held ∙ none_left) read in
     let short : length octets < 2 ^ 40 = omega (arith, length-gone head room done octets [] now, more) in
-    let all = gone_held head room done octets [] clean now (records_front head [] nothing refl) in
+    let all = gone_held head room done octets [] clean now (records_prefix head [] nothing refl) in
     let stop = short_stop octets (record { records = done; tail = clean }) short all in
     (stop.0, none_left, stop.1)
 
 -- or within one
 pub stops_cut : (head : CaptureHead) (room : ℕ) (done : List Record) (octets held rest : List ℕ)
-    → front_of head held ≡ part → rest ≡ [] → length held < room
+    → first_of head held ≡ part → rest ≡ [] → length held < room
     → HasRead octets (held ++ rest) head room done → Reached stopped.BadCapture octets rest done
 stops_cut head room done octets held rest is none_left more read =
     let now : HasRead octets (held ++ []) head room done = subst
@@ -114,7 +114,7 @@ stops_cut head room done octets held rest is none_left more read =
       length-append held [],
       more,
     ) in
-    let all = gone_held head room done octets held cut now (records_front head held part is) in
+    let all = gone_held head room done octets held cut now (records_prefix head held part is) in
     short_stop octets (record { records = done; tail = cut }) short all
 
 -- a length is above the most
@@ -130,29 +130,29 @@ stops_broken head room done octets held rest there over fits read =
     let all : input_capture octets ≡ record { records = done; tail = broken } =
     looked_capture head room done octets (held ++ rest) read
     ∙ ap (λ o. after_records done (records_of head o)) seen
-    ∙ ap (after_records done) (records_front head (held ++ take (room - length held) rest) wrong
-    (front_wrong head held (take (room - length held) rest) there over))
+    ∙ ap (after_records done) (records_prefix head (held ++ take (room - length held) rest) wrong
+    (prefix_wrong head held (take (room - length held) rest) there over))
     ∙ only_behind done broken
     in
     (bad_stop octets (record { records = done; tail = broken }) all refl, ap (λ (c : Capture). c.records) all)
 
 -- what waits for more octets ends cleanly or is cut
-waits_tail : (front : Front) (behind : List ℕ → Capture) → Waits front
-    → (tail : Tail) × (from_front front behind ≡ only tail) × (stop_at true tail ≡ big) × (tail ≢ broken)
+waits_tail : (prefix : FirstRecord) (behind : List ℕ → Capture) → Waits prefix
+    → (tail : Tail) × (from_record prefix behind ≡ only tail) × (stop_at true tail ≡ big) × (tail ≢ broken)
 waits_tail nothing behind waits = (clean, refl, refl, λ is. cc)
 waits_tail part behind waits = (cut, refl, refl, λ is. cc)
 waits_tail wrong behind waits = absurd waits
 waits_tail (whole one rest) behind waits = absurd waits
 
-waits_records : (head : CaptureHead) (held : List ℕ) → Waits (front_of head held)
+waits_records : (head : CaptureHead) (held : List ℕ) → Waits (first_of head held)
     → (tail : Tail) × (records_of head held ≡ only tail) × (stop_at true tail ≡ big) × (tail ≢ broken)
 waits_records head held waits =
-    let t = waits_tail (front_of head held) (records_of head) waits in
-    (t.0, records_front head held (front_of head held) refl ∙ t.1, t.2, t.3)
+    let t = waits_tail (first_of head held) (records_of head) waits in
+    (t.0, records_prefix head held (first_of head held) refl ∙ t.1, t.2, t.3)
 
 -- all is taken that is looked at
 pub stops_full : (head : CaptureHead) (room : ℕ) (done : List Record) (octets held rest : List ℕ)
-    → Waits (front_of head held) → length held ≡ room
+    → Waits (first_of head held) → length held ≡ room
     → HasRead octets (held ++ rest) head room done → Reached stopped.TooLong octets rest done
 stops_full head room done octets held rest waits full read =
     let t = waits_records head held waits in
@@ -173,7 +173,7 @@ stops_full head room done octets held rest waits full read =
 
 -- the source failed
 pub stops_fault : (head : CaptureHead) (room : ℕ) (done : List Record) (octets held rest : List ℕ)
-    → Waits (front_of head held) → length held < room
+    → Waits (first_of head held) → length held < room
     → HasRead octets (held ++ rest) head room done → Reached stopped.ReadFault octets rest done
 stops_fault head room done octets held rest waits more read =
     let t = waits_records head held waits in
@@ -215,12 +215,12 @@ pub stops_unknown : (octets held rest : List ℕ) → 24 ≤ length held → hea
     → Reached stopped.BadCapture octets rest []
 stops_unknown octets held rest there none parts =
     let seen = looked_at octets in
-    let front : take 24 seen ≡ take 24 held =
+    let prefix : take 24 seen ≡ take 24 held =
     take-take 24 (2 ^ 40) octets (omega arith) ∙ ap (take 24) parts ∙ take-append-le 24 held rest there
     in
     let long : length (take 24 held) ≡ 24 = omega (arith, length-take 24 held, there) in
     let whole_again : seen ≡ take 24 held ++ drop 24 seen = sym (take-append-drop 24 seen)
-    ∙ ap (λ f. f ++ drop 24 seen) front in
+    ∙ ap (λ f. f ++ drop 24 seen) prefix in
     let all : input_capture octets ≡ only broken =
     ap capture_of whole_again ∙ capture_behind (take 24 held) (drop 24 seen) long
     ∙ ap (λ h. behind_head h (drop 24 seen)) none

@@ -4,7 +4,7 @@ use Rattle.std.specs.Io.KnownBytes.{Consumes, IsAtEnd}
 use Rattle.pcap_form.specs.declared.block.Fill.{Fill}
 use Rattle.pcap_form.specs.declared.block.Fill.TheVariants.{Enough, End, Full, Fault}
 
--- the octets taken and not yet passed, and the room from their front on
+-- the octets taken and not yet passed, and the room from their start on
 pub record Ahead : Type 0 where
   pub held : List ℕ
   pub room : ℕ

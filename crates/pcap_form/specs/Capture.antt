@@ -3,7 +3,7 @@ use Rattle.std.specs.Prelude.{ℕ, suc, zero, ◌^◌, Bool, true, false, List, 
 use Rattle.std.specs.Prelude.{nat_lt, nat_le, if◌then◌else◌, Option, None, Some}
 use Rattle.pcap_form.specs.declared.head.CaptureHead.{CaptureHead}
 use Rattle.pcap_form.specs.Head.{head_len, head_of}
-use Rattle.pcap_form.specs.Record.{Record, Front, nothing, part, wrong, whole, front_of}
+use Rattle.pcap_form.specs.Record.{Record, FirstRecord, nothing, part, wrong, whole, first_of}
 
 -- the octets end behind a record, or behind the header · within a record, or the header · a length is above the most,
 -- or the header is none
@@ -23,16 +23,16 @@ only tail = record { records = []; tail = tail }
 abbrev pub after_records : List Record → Capture → Capture
 after_records records capture = record { records = records ++ capture.records; tail = capture.tail }
 
-abbrev pub from_front : Front → (List ℕ → Capture) → Capture
-from_front nothing behind = only clean
-from_front part behind = only cut
-from_front wrong behind = only broken
-from_front (whole one rest) behind = after_records (one ∷ []) (behind rest)
+abbrev pub from_record : FirstRecord → (List ℕ → Capture) → Capture
+from_record nothing behind = only clean
+from_record part behind = only cut
+from_record wrong behind = only broken
+from_record (whole one rest) behind = after_records (one ∷ []) (behind rest)
 
 -- the records of octets, of which there are fewer than the first number
 abbrev pub records_below : ℕ → CaptureHead → List ℕ → Capture
 records_below zero head octets = only clean
-records_below (suc most) head octets = from_front (front_of head octets) (records_below most head)
+records_below (suc most) head octets = from_record (first_of head octets) (records_below most head)
 
 -- a record has an octet at least, so there are no more records than octets
 unfoldable pub records_of : CaptureHead → List ℕ → Capture

@@ -36,14 +36,14 @@ record_in head octets = record { time = time_of head octets; said = kind_in head
 
 -- what octets begin with: nothing is left · they end within a record · its captured length is above the most · a
 -- record, and the octets behind it
-pub data Front : Type 0 where
-  nothing : Front
-  part : Front
-  wrong : Front
-  whole : Record → List ℕ → Front
+pub data FirstRecord : Type 0 where
+  nothing : FirstRecord
+  part : FirstRecord
+  wrong : FirstRecord
+  whole : Record → List ℕ → FirstRecord
 
-abbrev pub front_of : CaptureHead → List ℕ → Front
-front_of head octets =
+abbrev pub first_of : CaptureHead → List ℕ → FirstRecord
+first_of head octets =
     if nat_lt (length octets) record_len then (if nat_lt 0 (length octets) then part else nothing)
     else if nat_lt snapshot_max (captured_of head octets) then wrong
     else if nat_lt (length octets) (record_len + captured_of head octets) then part

@@ -1,5 +1,5 @@
 //! The header of a capture.
-ghost use Rattle.std.specs.Prelude.{◌≡◌, ◌↔◌, ℕ, ◌<◌, ◌≤◌, ◌^◌, length, Bool, List, Some, IfSome, IsNone};
+ghost use Rattle.std.specs.Prelude.{◌≡◌, ◌<◌, ◌≤◌, length, Some, IfSome};
 ghost use Rattle.pcap_form.specs.Head.{IsHead, head_in, head_of, link_of, magic_of, which};
 
 use crate::numbers::{number16_at, number32_at};

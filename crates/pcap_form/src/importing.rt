@@ -2,7 +2,7 @@
 ghost use Rattle.std.specs.Prelude.{◌≡◌, ◌+◌, ◌≤◌, ◌^◌, ◌++◌, [], ℕ, List, Option, length, take};
 ghost use Rattle.std.specs.Prelude.{unwrap_or, OnOk, OnErr, IfOk, IfErr, Ok, Err};
 ghost use Rattle.pc_outside.specs.Faults.{Rises};
-ghost use Rattle.pc_outside.specs.Fronts.{AppendsPrefix};
+ghost use Rattle.pc_outside.specs.Prefixes.{AppendsPrefix};
 ghost use Rattle.pcap_form.specs.Head.{head_of};
 ghost use Rattle.pcap_form.specs.Lent.{said_by};
 ghost use Rattle.pcap_form.specs.Record.{record_in};
@@ -133,7 +133,7 @@ fn push_lent(out: &mut Text, moment: Moment, said: Option<LentKind<'_>>) -> Resu
     }
 }
 
-// The header at the front of octets.
+// The header at the start of octets.
 fn header(octets: &[u8]) -> Option<CaptureHead>
     requires { 24 ≤ length octets.now }
     ensures { result ≡ head_of (take 24 octets.now) }

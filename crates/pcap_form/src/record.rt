@@ -1,5 +1,5 @@
 //! The head of a record, and the moment of a line.
-ghost use Rattle.std.specs.Prelude.{◌≡◌, ◌<◌, ◌≤◌, ◌^◌, length};
+ghost use Rattle.std.specs.Prelude.{◌≡◌, ◌≤◌, length};
 ghost use Rattle.pcap_form.specs.Record.{captured_of, time_of};
 ghost use Rattle.pcap_form.specs.Trace.{moment_of};
 
@@ -21,7 +21,7 @@ pub struct RecordHead {
     pub captured: u32,
 }
 
-/// The head at the front of a record.
+/// The head at the start of a record.
 #[inline]
 pub fn read_record_head(head: &CaptureHead, bytes: &[u8]) -> RecordHead
     requires { 16 ≤ length bytes.now }

@@ -5,7 +5,7 @@ use Rattle.audit_core.specs.Said.{HasNoEntry, report_texts}
 use Rattle.pc_outside.specs.Texts.{big, ended, long, texts_of}
 use Rattle.balance_plan.specs.Report.{Reports}
 use Rattle.balance_plan.specs.Report.{Balances as BalancesThere}
-use Rattle.balance_plan.specs.Said.{HasBadLine, IsTrace}
+use Rattle.balance_plan.specs.Said.{IsTrace}
 use Rattle.balance_plan.specs.declared.balancing.Balanced.{Balanced}
 use Rattle.balance_plan.specs.declared.balancing.Balanced.TheVariants as balanced
 use Rattle.pepc.specs.Balance.{BalanceReports, Balances, status_of}

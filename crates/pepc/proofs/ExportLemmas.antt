@@ -3,7 +3,7 @@ use Rattle.std.proofs.Common.{◌≡◌, ℕ, inl, inr, List, [], ◌∷◌, ◌
 use Rattle.std.specs.Io.KnownBytes.{Appends}
 use Rattle.std.proofs.KnownBytes.{Appends-nil, Appends-trans}
 use Rattle.std.proofs.lemmas.Grind.{flat_map-append}
-use Rattle.pc_outside.specs.Fronts.{AppendsPrefix}
+use Rattle.pc_outside.specs.Prefixes.{AppendsPrefix}
 use Rattle.trace_lines.specs.Line.{Line}
 use Rattle.pcap_form.specs.Export.{export_of, header, record_of}
 use Rattle.pepc.specs.ExportProgress.{BreaksOff, Captures, IsFirst}
@@ -59,8 +59,8 @@ sends waiting now done old mid new so_far written emptied = record {
 pub breaks_off : (waiting : List ℕ) (done : List Line) (old mid new : Option (List ℕ))
     → Captures waiting done old mid → AppendsPrefix mid new waiting → BreaksOff done old new
 breaks_off waiting done old mid new so_far cut = record {
-  sent = so_far.sent ++ cut.front;
+  sent = so_far.sent ++ cut.prefix;
   more = cut.rest;
-  written = Appends-trans old mid new so_far.sent cut.front so_far.written cut.appended;
-  parts = so_far.waits ∙ ap (λ t. so_far.sent ++ t) cut.parts ∙ sym (append_assoc so_far.sent cut.front cut.rest);
+  written = Appends-trans old mid new so_far.sent cut.prefix so_far.written cut.appended;
+  parts = so_far.waits ∙ ap (λ t. so_far.sent ++ t) cut.parts ∙ sym (append_assoc so_far.sent cut.prefix cut.rest);
 }

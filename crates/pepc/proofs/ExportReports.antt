@@ -24,8 +24,8 @@ use Rattle.trace_run.proofs.EndingLemmas.{stop_is}
 use Rattle.pc_outside.proofs.ToldLemmas.{told_map}
 
 -- the capture of first lines is a prefix of that of all
-export-front : (done more : List Line) → export_of (done ++ more) ≡ export_of done ++ flat_map record_of more
-export-front done more =
+export-prefix : (done more : List Line) → export_of (done ++ more) ≡ export_of done ++ flat_map record_of more
+export-prefix done more =
     ap (λ records. header ++ records) (flat_map-append record_of done more)
     ∙ sym (append_assoc header (flat_map record_of done) (flat_map record_of more))
 
@@ -35,7 +35,7 @@ cut_export octets text more done begins parts =
     let rest = flat_map record_of begins.0.lines in
     record {
       more = more ++ rest;
-      parts = ap (λ (i : Input). export_of i.lines) begins.1 ∙ export-front done begins.0.lines
+      parts = ap (λ (i : Input). export_of i.lines) begins.1 ∙ export-prefix done begins.0.lines
           ∙ ap (λ t. t ++ rest) parts ∙ append_assoc text more rest;
     }
 

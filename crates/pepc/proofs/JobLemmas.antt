@@ -8,10 +8,12 @@ use Rattle.trace_maker.specs.Generated.{made}
 use Rattle.trace_run.specs.Beginnings.{whole_input}
 use Rattle.trace_run.specs.declared.status.Status.{Status}
 use Rattle.trace_run.specs.declared.status.Status.TheVariants as status
+use Rattle.pc_outside.specs.Texts.{texts_of}
 use Rattle.pepc.specs.Audit.{audit_setup}
 use Rattle.pepc.specs.Jobs.{Completes, Does, without_threads}
 use Rattle.pepc.specs.Make.{IsMakePrefix, Made, Makes}
 use Rattle.trace_run.specs.Report.{IsDone}
+use Rattle.pepc.proofs.AlongReports.{along_complete, nothing_along, nothing_judged}
 use Rattle.pepc.proofs.AuditReports.{audit_complete, nothing_audited, nothing_settles}
 use Rattle.pepc.proofs.BalanceReports.{balance_complete, nothing_balanced}
 use Rattle.pepc.proofs.ExportReports.{export_complete, nothing_exported}
@@ -30,14 +32,14 @@ use Rattle.pepc.specs.Drive.{schedule_asked}
 use Rattle.pepc.specs.Replay.{setup_asked}
 use Rattle.solo_command.specs.Report.{IsSoloReport}
 
-no_front : (summary : Bool) (lines : List Line) → IsMakePrefix summary lines []
-no_front false lines = record { front = []; rest = lines; parts = refl; written = refl }
-no_front true lines = refl
+no_prefix : (summary : Bool) (lines : List Line) → IsMakePrefix summary lines []
+no_prefix false lines = record { prefix = []; rest = lines; parts = refl; written = refl }
+no_prefix true lines = refl
 
 nothing_made : (seed subs lines : ℕ) (summary : Bool) (old : Option (List ℕ))
     → Makes seed subs lines summary status.NoMemory old old
 nothing_made seed subs lines summary old =
-    record { text = []; written = Appends-nil old; is = no_front summary (made seed subs lines) }
+    record { text = []; written = Appends-nil old; is = no_prefix summary (made seed subs lines) }
 
 -- memory ran out before anything was read
 pub nothing_done : (asked : Option Job) (source_failed : Type 0) (start old : Option (List ℕ))
@@ -56,6 +58,8 @@ nothing_done (Some job.Import) source_failed start old = nothing_imported source
 nothing_done (Some job.Export) source_failed start old = nothing_exported source_failed start old
 nothing_done (Some (job.Audit solo slices room lane why)) source_failed start old =
     nothing_audited why (audit_setup solo slices room lane) start old
+nothing_done (Some (job.Along solo slices room lane why)) source_failed start old =
+    nothing_along why (audit_setup solo slices room lane) start old
 nothing_done (Some (job.Balance slices most)) source_failed start old = nothing_balanced slices most start old
 nothing_done (Some job.Save) source_failed start old = nothing_saved start old
 nothing_done (Some job.Resume) source_failed start old = nothing_resumed source_failed start old
@@ -69,6 +73,8 @@ nothing_completes (Some (job.Make seed subs lines summary)) start = inr refl
 nothing_completes (Some job.Import) start = λ octets is stop. inr refl
 nothing_completes (Some job.Export) start = λ octets is stop. inr refl
 nothing_completes (Some (job.Audit solo slices room lane why)) start = λ octets is stop found finds. nothing_settles found
+nothing_completes (Some (job.Along solo slices room lane why)) start = λ octets is stop.
+    nothing_judged (audit_setup solo slices room lane) (texts_of octets).lines
 nothing_completes (Some (job.Balance slices most)) start = λ octets is stop good each. inr refl
 nothing_completes (Some job.Save) start = λ octets is stop. inr refl
 nothing_completes (Some job.Resume) start = λ octets is found stop. inr refl
@@ -122,6 +128,11 @@ job_completes one_state (job.Audit solo slices room lane why) ending source_fail
     λ octets is stop found finds.
     audit_complete why (audit_setup solo slices room lane) ending source_failed sink_failed octets start left old new found is
     stop no_source no_sink read write finds does
+job_completes one_state (job.Along solo slices room lane why) ending source_failed sink_failed start left old new no_source
+    no_sink read write usage does =
+    λ octets is stop.
+    along_complete why (audit_setup solo slices room lane) ending source_failed sink_failed octets start left old new is
+    stop no_source no_sink read write does
 job_completes one_state (job.Balance slices most) ending source_failed sink_failed start left old new no_source no_sink read write
     usage does =
     λ octets is stop good each.
@@ -145,6 +156,7 @@ no_threads (job.Make seed subs lines summary) none = refl
 no_threads job.Import none = refl
 no_threads job.Export none = refl
 no_threads (job.Audit solo slices room lane why) none = refl
+no_threads (job.Along solo slices room lane why) none = refl
 no_threads (job.Balance slices most) none = refl
 no_threads job.Save none = refl
 no_threads job.Resume none = refl

@@ -9,4 +9,5 @@ pub mod ExportLemmas
 pub mod ExportReports
 pub mod ImportReports
 pub mod AuditReports
+pub mod AlongReports
 pub mod BalanceReports

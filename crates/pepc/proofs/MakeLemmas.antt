@@ -3,7 +3,7 @@ use Rattle.std.proofs.Common.{◌≡◌, ℕ, ◌+◌, true, List, Option, sym, 
 use Rattle.std.specs.Io.KnownBytes.{Appends}
 use Rattle.report_lines.specs.Counts.{Counts}
 use Rattle.report_lines.specs.Summary.{summary_text}
-use Rattle.pc_outside.specs.Fronts.{AppendsPrefix}
+use Rattle.pc_outside.specs.Prefixes.{AppendsPrefix}
 use Rattle.trace_maker.specs.Generated.{made}
 use Rattle.trace_maker.proofs.ReadLemmas.{length-made}
 use Rattle.trace_run.specs.declared.status.Status.TheVariants as status
@@ -25,7 +25,7 @@ pub summary_cut : (seed subs lines : ℕ) (old new : Option (List ℕ)) (text : 
     → IsSummary (made seed subs lines) text → AppendsPrefix old new text
     → Makes seed subs lines true status.WriteFault old new
 summary_cut seed subs lines old new text is sent = record {
-  text = sent.front;
+  text = sent.prefix;
   written = sent.appended;
   is = record {
     more = sent.rest;

@@ -13,10 +13,10 @@ use Rattle.pc_outside.specs.Texts as texts
 use Rattle.trace_run.specs.declared.status.Status.{Status}
 use Rattle.trace_run.specs.declared.status.Status.TheVariants as status
 use Rattle.trace_run.specs.Beginnings.{Beginning, behind, input_from}
-use Rattle.trace_run.specs.Report.{IsCutText, IsDone, IsEpochsText, IsFaultText, IsText, ReportsFrom, RunsFrom}
+use Rattle.trace_run.specs.Report.{IsDone, IsEpochsText, IsFaultText, IsText, ReportsFrom, RunsFrom}
 use Rattle.trace_run.proofs.EndingLemmas.{complete}
 use Rattle.solo_command.specs.Reports.{IsResumed}
-use Rattle.solo_command.specs.Resumes.{CompletesResume, HasState, Resumed, Resumes, ResumesAs, StoppedFirst, begins_at}
+use Rattle.solo_command.specs.Resumes.{CompletesResume, HasState, Resumes, ResumesAs, StoppedFirst, begins_at}
 use Rattle.pepc.proofs.OneTrace.{ends_alike}
 use Rattle.solo_command.proofs.StateLemmas.{none_stopped, told_exactly}
 

@@ -2,7 +2,7 @@
 use Rattle.std.proofs.Common.{◌≡◌, ℕ, inl, inr, List, [], Option, None, Some, refl, sym, ◌∙◌, subst}
 use Rattle.std.proofs.KnownBytes.{Appends-nil}
 use Rattle.pc_outside.specs.WhereTold.{WhereTold}
-use Rattle.trace_lines.specs.Input.{Stop, big, ended, input_of}
+use Rattle.trace_lines.specs.Input.{big, ended, input_of}
 use Rattle.trace_run.specs.declared.status.Status.{Status}
 use Rattle.trace_run.specs.declared.status.Status.TheVariants as status
 use Rattle.trace_run.specs.Report.{IsBad, IsDone, IsLong}

@@ -1,5 +1,5 @@
 -- What a run of `balance` wrote, by its status.
-use Rattle.std.specs.Prelude.{◌≡◌, ℕ, List, [], Option}
+use Rattle.std.specs.Prelude.{ℕ, List, Option}
 use Rattle.std.specs.Io.KnownBytes.{Appends}
 use Rattle.balance_plan.specs.Report.{Reports}
 use Rattle.balance_plan.specs.declared.balancing.Balanced.{Balanced}

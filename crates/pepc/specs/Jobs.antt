@@ -13,6 +13,7 @@ use Rattle.audit_core.specs.Said.{HasNoEntry, report_texts}
 use Rattle.balance_plan.specs.Said.{IsTrace}
 use Rattle.solo_command.specs.Resumes.{CompletesResume, Resumes}
 use Rattle.save_command.specs.Saves.{Saves}
+use Rattle.pepc.specs.Along.{AreJudged, AuditsAlong}
 use Rattle.pepc.specs.Audit.{Audits, Settles, audit_setup}
 use Rattle.pepc.specs.Balance.{Balances}
 use Rattle.pepc.specs.Drive.{schedule_asked}
@@ -32,6 +33,7 @@ without_threads (job.Make seed subs lines summary) = Some (job.Make seed subs li
 without_threads job.Import = Some job.Import
 without_threads job.Export = Some job.Export
 without_threads (job.Audit solo slices room lane why) = Some (job.Audit solo slices room lane why)
+without_threads (job.Along solo slices room lane why) = Some (job.Along solo slices room lane why)
 without_threads (job.Balance slices most) = Some (job.Balance slices most)
 without_threads job.Save = Some job.Save
 without_threads job.Resume = Some job.Resume
@@ -56,6 +58,8 @@ Does (Some job.Import) ending source_failed start left old new = Imports ending 
 Does (Some job.Export) ending source_failed start left old new = Exports ending source_failed start left old new
 Does (Some (job.Audit solo slices room lane why)) ending source_failed start left old new =
     Audits why (audit_setup solo slices room lane) ending start left old new
+Does (Some (job.Along solo slices room lane why)) ending source_failed start left old new =
+    AuditsAlong why (audit_setup solo slices room lane) ending start left old new
 Does (Some (job.Balance slices most)) ending source_failed start left old new =
     Balances slices most ending start left old new
 Does (Some job.Save) ending source_failed start left old new = Saves ending start left old new
@@ -78,6 +82,9 @@ Completes (Some job.Export) ending start =
 Completes (Some (job.Audit solo slices room lane why)) ending start =
     (octets : List ℕ) → start ≡ Some octets → (texts.texts_of octets).stop ≡ texts.ended → (found : Option ℕ)
     → Finds (audit_setup solo slices room lane) (texts.texts_of octets).lines found → Settles found ending
+Completes (Some (job.Along solo slices room lane why)) ending start =
+    (octets : List ℕ) → start ≡ Some octets → (texts.texts_of octets).stop ≡ texts.ended
+    → AreJudged (audit_setup solo slices room lane) (texts.texts_of octets).lines ending
 Completes (Some (job.Balance slices most)) ending start =
     (octets : List ℕ) → start ≡ Some octets → (texts.texts_of octets).stop ≡ texts.ended
     → IsTrace (texts.texts_of octets).lines → ¬ HasNoEntry (report_texts (texts.texts_of octets).lines) → IsDone ending

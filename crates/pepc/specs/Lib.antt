@@ -1,6 +1,7 @@
 pub mod Counting
 pub mod Make
 pub mod Audit
+pub mod Along
 pub mod Balance
 pub mod Export
 pub mod ExportProgress

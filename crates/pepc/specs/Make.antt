@@ -29,14 +29,14 @@ IsMakeText false lines text = text ≡ text_of lines
 IsMakeText true lines text = IsSummary lines text
 
 -- the text of some first lines; of a summary nothing
-pub record IsFront (lines : List Line) (text : List ℕ) : Type 0 where
-  pub front : List Line
+pub record IsFirstLines (lines : List Line) (text : List ℕ) : Type 0 where
+  pub prefix : List Line
   pub rest : List Line
-  pub parts : lines ≡ front ++ rest
-  pub written : text ≡ text_of front
+  pub parts : lines ≡ prefix ++ rest
+  pub written : text ≡ text_of prefix
 
 abbrev pub IsMakePrefix : Bool → List Line → List ℕ → Type 0
-IsMakePrefix false lines text = IsFront lines text
+IsMakePrefix false lines text = IsFirstLines lines text
 IsMakePrefix true lines text = text ≡ []
 
 -- a prefix of the text, and not all

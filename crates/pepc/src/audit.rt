@@ -32,7 +32,7 @@ pub fn audit<S: Source, K: Sink>(
     status_of(audit_core::audit(alloc, setup, why, source, sink))
 }
 
-fn status_of(audited: Audited) -> Status
+pub(crate) fn status_of(audited: Audited) -> Status
     ensures status { result ≡ status_of audited }
     ensures no_usage { result ≡ Status.Usage → ⊥ }
     ensures read_fault { result ≡ Status.ReadFault → audited ≡ Audited.ReadFault }

@@ -1,8 +1,8 @@
 //! The command `export`: the capture of the lines that are kept.
-ghost use Rattle.std.specs.Prelude.{◌≡◌, ◌≤◌, ◌++◌, [], Err, OnOk, OnErr, IfOk};
+ghost use Rattle.std.specs.Prelude.{◌≡◌, ◌≤◌, [], Err, OnOk, OnErr, IfOk};
 ghost use Rattle.std.specs.Io.KnownBytes.{Appends};
 ghost use Rattle.pc_outside.specs.Faults.{Rises};
-ghost use Rattle.pc_outside.specs.Fronts.{AppendsPrefix};
+ghost use Rattle.pc_outside.specs.Prefixes.{AppendsPrefix};
 ghost use Rattle.pcap_form.specs.Export.{header};
 ghost use Rattle.pepc.specs.Export.{Exports};
 
@@ -60,7 +60,7 @@ impl LineTaker for Capture {
     // Appends the record of the line. A piece that is long enough is written.
     fn take<K: Sink>(
         &mut self,
-        line: &TraceLine,
+        line: &mut TraceLine,
         _len: usize,
         sink: &mut K,
     ) -> Result<(), Unwritten> {

@@ -2,6 +2,7 @@
 //! tells how it ended; `run_plain` does each that starts no threads. Which streams these are is left to the program.
 #![tactic(auto)]
 
+mod along;
 mod audit;
 mod balance;
 mod drive;

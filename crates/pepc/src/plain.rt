@@ -5,6 +5,7 @@ ghost use Rattle.command_words.specs.Job.{IsInRange, job_of};
 ghost use Rattle.pc_outside.specs.Faults.{Rises};
 ghost use Rattle.pepc.specs.Jobs.{Completes, Does, plain_job, without_threads};
 
+use crate::along::along;
 use crate::audit::audit;
 use crate::balance::balance;
 use crate::drive::drive;
@@ -74,6 +75,21 @@ pub(crate) fn do_job<S: Source, K: Sink>(
             };
             audit(alloc, &setup, why, source, sink)
         }
+        Job::Along {
+            solo,
+            slices,
+            room,
+            lane,
+            why,
+        } => {
+            let setup = Setup {
+                solo,
+                slices,
+                room,
+                lane,
+            };
+            along(alloc, &setup, why, source, sink)
+        }
         Job::Balance { slices, most } => balance(alloc, slices, most, source, sink),
         Job::Save => save(alloc, source, sink),
         Job::Resume => resume(alloc, source, sink),
@@ -83,9 +99,10 @@ pub(crate) fn do_job<S: Source, K: Sink>(
 /// Does what the arguments say, without the program's name. `solo` and `drive` read a trace from the source and write
 /// its report to the sink, epoch by epoch, as one thread answers it or under a schedule of turns; `make` writes a
 /// generated trace, or the summary of its report; `import` makes a trace of a capture, and `export` a capture of a
-/// trace; `audit` reads a trace and a report of it, and writes whether the report is a lawful one, and `balance` the
-/// trace with planned moves; `save` writes the state that a trace leaves, and `resume` the report of a trace behind a
-/// state. Other arguments are Usage, and so is `replay`, which starts threads.
+/// trace; `audit` reads a trace and a report of it, and writes whether the report is a lawful one, with `--along` of
+/// each piece as it is read, and `balance` the trace with planned moves; `save` writes the state that a trace leaves,
+/// and `resume` the report of a trace behind a state. Other arguments are Usage, and so is `replay`, which starts
+/// threads.
 pub fn run_plain<S: Source, K: Sink>(
     alloc: Global,
     arguments: &[String],

@@ -8,7 +8,7 @@ ghost use Rattle.trace_run.specs.Report.{Runs};
 
 use command_words::Lanes;
 use pc_outside::{Sink, Source};
-use replay_command::{Patience, Replayer, run_report_in_blocks};
+use replay_command::{Pace, Replayer, run_report_in_blocks};
 use std::alloc::Global;
 use std::sync::Wait;
 use std::thread::Threads;
@@ -20,7 +20,7 @@ pub fn replay<R: Threads + Wait + Sync, S: Source, K: Sink>(
     rt: &R,
     alloc: Global,
     lanes: Lanes,
-    pace: Patience,
+    pace: Pace,
     places: bool,
     source: &mut S,
     sink: &mut K,

@@ -20,10 +20,10 @@ fn state_before<S: Source>(
     source: &mut S,
     buf: &mut LineBuf,
 ) -> Result<StateFile, Status>
-    requires fresh { buf.old ≡ record { line = []; last = false; front = []; room = 2 ^ 40 } }
+    requires fresh { buf.old ≡ record { line = []; last = false; buffered = []; room = 2 ^ 40 } }
 
     ensures found { IfOk result (λ file. WhereTold (S.left source.old)
-        (prepend_known buf.new.front (S.left source.new)) (λ octets rest. HasFound file octets rest buf.new.room)) }
+        (prepend_known buf.new.buffered (S.left source.new)) (λ octets rest. HasFound file octets rest buf.new.room)) }
     ensures room { IfOk result (λ file. buf.new.room ≤ 2 ^ 40) }
     ensures stopped { IfErr result (λ ending. WhereTold (S.left source.old) (S.left source.new)
         (StoppedFirst ending)) }
@@ -55,7 +55,7 @@ fn go_on<S: Source, K: Sink>(
     requires room { buf.old.room ≤ 2 ^ 40 }
 
     ensures runs { RunsFrom (begins_at file buf.old.room) (IsResumed 64 file) false result
-        (Rises (S.faults source.old) (S.faults source.new)) (prepend_known buf.old.front (S.left source.old))
+        (Rises (S.faults source.old) (S.faults source.new)) (prepend_known buf.old.buffered (S.left source.old))
         (S.left source.new) (K.written sink.old) (K.written sink.new) }
     ensures no_usage { result ≡ Status.Usage → ⊥ }
 
@@ -64,7 +64,6 @@ fn go_on<S: Source, K: Sink>(
     ensures read_fault { result ≡ Status.ReadFault → Rises (S.faults source.old) (S.faults source.new) }
     ensures write_fault { result ≡ Status.WriteFault → Rises (K.faults sink.old) (K.faults sink.new) }
 {
-    file.known();
     let lines = file.lines;
     let least = file.moment;
     let resumer = Resumer::behind(alloc, file);

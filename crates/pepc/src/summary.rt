@@ -1,6 +1,6 @@
 //! What the report of a made trace counts: each line is answered as it is made, and each epoch's text
 //! is counted when it is whole.
-ghost use Rattle.std.specs.Prelude.{◌≡◌, ◌≤◌, ◌∷◌, ◌++◌, [], ℕ, List, length, IfOk, OnOk};
+ghost use Rattle.std.specs.Prelude.{◌≤◌, ◌∷◌, ◌++◌, [], ℕ, List, length, IfOk, OnOk};
 ghost use Rattle.pc_outside.specs.Limits.{line_max};
 ghost use Rattle.trace_lines.specs.Line.{Line};
 ghost use Rattle.trace_lines.specs.Text.{line_text};
@@ -29,8 +29,8 @@ pub fn counted(alloc: Global, seed: u64, subs: u32, lines: u32) -> Result<EntryC
     let mut epochs = Epochs::new(alloc, Solo::new(alloc));
     let mut text = Text::new(alloc);
     let mut counts = EntryCounts::new();
-    while let Some(line) = made_line(alloc, &mut maker)? {
-        count_line(&mut epochs, &line, &mut text, &mut counts)?;
+    while let Some(mut line) = made_line(alloc, &mut maker)? {
+        count_line(&mut epochs, &mut line, &mut text, &mut counts)?;
     }
     epochs.finish(Ending::Ended, u64::from(subs) + u64::from(lines))?;
     counts.add(epochs.text.as_slice());
@@ -40,19 +40,19 @@ pub fn counted(alloc: Global, seed: u64, subs: u32, lines: u32) -> Result<EntryC
 // Answers a line. An epoch that it ends is counted; the text of the line is used for its length alone.
 fn count_line(
     epochs: &mut Epochs<Solo>,
-    line: &TraceLine,
+    line: &mut TraceLine,
     text: &mut Text,
     counts: &mut EntryCounts,
 ) -> Result<(), AllocError>
     requires next { (done : List Line) × (latest : ℕ) × CountedSoFar epochs.old.reporter epochs.old.size
-        epochs.old.text counts.old done latest × IsNextOf done latest line.now }
-    requires short { length (line_text line.now) ≤ line_max }
+        epochs.old.text counts.old done latest × IsNextOf done latest line.old }
+    requires short { length (line_text line.old) ≤ line_max }
 
     ensures { (done : List Line) (latest : ℕ)
         → CountedSoFar epochs.old.reporter epochs.old.size epochs.old.text counts.old done latest
-        → IsNextOf done latest line.now
+        → IsNextOf done latest line.old
         → OnOk result (CountedSoFar epochs.new.reporter epochs.new.size epochs.new.text counts.new
-        (done ++ line.now ∷ []) line.now.moment) }
+        (done ++ line.old ∷ []) line.old.moment) }
 {
     text.clear();
     push_text(text, line)?;

@@ -10,7 +10,7 @@ use crate::replay::replay;
 use command_words::{Job, job};
 use pc_outside::{Sink, Source};
 use record_codec::lines_say_one_state;
-use replay_command::Patience;
+use replay_command::Pace;
 use std::alloc::{AllocError, Global};
 use std::sync::Wait;
 use std::thread::Threads;
@@ -44,7 +44,7 @@ fn run_job<R: Threads + Wait + Sync, S: Source, K: Sink>(
             linger,
             places,
         } => {
-            let pace = Patience { patience, linger };
+            let pace = Pace { patience, linger };
             replay(rt, alloc, lanes, pace, places, source, sink)
         }
         other => do_job(alloc, other, source, sink),

@@ -5,15 +5,15 @@ use Rattle.std.proofs.lemmas.List.{same_from_push}
 
 -- a list is empty or has a last element
 pub record EndsWith {X : Type 0} (xs : List X) : Type 0 where
-  pub front : List X
+  pub prefix : List X
   pub last : X
-  pub is : xs ≡ front ++ last ∷ []
+  pub is : xs ≡ prefix ++ last ∷ []
 
 pub ends : {X : Type 0} (x : X) (xs : List X) → EndsWith (x ∷ xs)
-ends x [] = record { front = []; last = x; is = refl }
+ends x [] = record { prefix = []; last = x; is = refl }
 ends x (y ∷ ys) =
     let inner = ends y ys in
-    record { front = x ∷ inner.front; last = inner.last; is = ap (λ zs. x ∷ zs) inner.is }
+    record { prefix = x ∷ inner.prefix; last = inner.last; is = ap (λ zs. x ∷ zs) inner.is }
 
 -- the split is at the new element
 pub record AtEnd {X : Type 0} (xs before after : List X) (x y : X) : Type 0 where
@@ -35,9 +35,9 @@ split_push xs before [] x y e =
     inl (record { same = same.0; is = same.1; nothing = refl })
 split_push xs before (z ∷ zs) x y e =
     let last = ends z zs in
-    let same = same_from_push xs (before ++ x ∷ last.front) y last.last
-    (e ∙ ap (λ rest. before ++ x ∷ rest) last.is ∙ sym (append_assoc before (x ∷ last.front) (last.last ∷ []))) in
-    inr (record { rest = last.front; split = same.0; is = last.is ∙ ap (λ w. last.front ++ w ∷ []) (sym same.1) })
+    let same = same_from_push xs (before ++ x ∷ last.prefix) y last.last
+    (e ∙ ap (λ rest. before ++ x ∷ rest) last.is ∙ sym (append_assoc before (x ∷ last.prefix) (last.last ∷ []))) in
+    inr (record { rest = last.prefix; split = same.0; is = last.is ∙ ap (λ w. last.prefix ++ w ∷ []) (sym same.1) })
 
 -- what holds of each element holds of the one at a split
 pub All-split : {X : Type 0} (P : X → Type 0) (xs before after : List X) (x : X) → xs ≡ before ++ x ∷ after → All P xs

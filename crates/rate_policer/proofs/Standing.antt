@@ -74,6 +74,7 @@ conforms_joined rate passed last later past high nothing conforms = record {
 pub stands_full : (rate level : ℕ) → level ≡ burst rate → StandsFor (record { rate = rate; level = level; last = 0 }) []
 stands_full rate level full = record {
   past = λ k d inside. omega arith;
+  level = omega (arith, full);
   same = λ cost late. (
     λ (lets : cost.millibits ≤ min (burst rate) (level + rate * (cost.at - 0))). record {
       alone = le_trans lets (min-le_left (burst rate) (level + rate * (cost.at - 0)));
@@ -91,11 +92,16 @@ pub stands_moved : (bucket : BucketState) (passed : List Cost) (at rate level : 
 stands_moved bucket passed at rate level stands low same_rate same_level =
     rw (same_rate, same_level) (record {
       past = λ k d inside. le_trans (stands.past k d inside) low;
+      level = min-le_left (burst bucket.rate) _;
       same = λ cost late.
           let moved = level_at-moved bucket at cost.at low late in
           let same = stands.same cost (le_trans low late) in
           (λ lets. same.0 (rw moved at lets), λ conforms. rw moved (same.1 conforms));
     })
+
+-- what is left of a level is within what it was within
+left_within : (level cost most : ℕ) → level ≤ most → level - cost ≤ most
+left_within level cost most within = omega (arith, within)
 
 -- and where it let a cost through, and keeps what that leaves, also for this
 pub stands_charged : (bucket : BucketState) (passed : List Cost) (cost : Cost) (rate level : ℕ)
@@ -105,6 +111,7 @@ pub stands_charged : (bucket : BucketState) (passed : List Cost) (cost : Cost) (
 stands_charged bucket passed cost rate level stands low lets same_rate same_level =
     rw (same_rate, same_level) (record {
       past = All-push (λ (c : Cost). c.at ≤ cost.at) passed cost past (omega arith);
+      level = left_within (level_at bucket cost.at) cost.millibits (burst bucket.rate) (min-le_left (burst bucket.rate) _);
       same = λ later late.
           let within = within_charged (burst bucket.rate) (level_at bucket cost.at) later.millibits cost.millibits
           (bucket.rate * (later.at - cost.at)) lets (min-le_left (burst bucket.rate) _) in

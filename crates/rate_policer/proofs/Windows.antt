@@ -27,9 +27,9 @@ record Passes (rate : ℕ) (before window after : List Cost) (from to : ℕ) : T
   policed : ArePoliced rate ((before ++ window) ++ after)
   timed : All (λ cost. (from ≤ cost.at) × (cost.at ≤ to)) window
 
-volume_timed : (rate : ℕ) (before front after : List Cost) (last : Cost) (from to : ℕ)
-    → Passes rate before (front ++ last ∷ []) after from to
-    → volume (front ++ last ∷ []) ≤ burst rate + rate * (to - from)
+volume_timed : (rate : ℕ) (before prefix after : List Cost) (last : Cost) (from to : ℕ)
+    → Passes rate before (prefix ++ last ∷ []) after from to
+    → volume (prefix ++ last ∷ []) ≤ burst rate + rate * (to - from)
 volume_timed rate before [] after last from to passes =
     let conforms = passes.policed before after last (append_assoc before (last ∷ []) after) in
     omega (arith, conforms.alone, volume-one last)
@@ -52,5 +52,5 @@ no_time_passes_more rate passed before (first ∷ rest) after from to policed e 
     let passes : Passes rate before (first ∷ rest) after from to
     = record { policed = subst (ArePoliced rate) e policed; timed = timed } in
     subst (λ (costs : List Cost). volume costs ≤ burst rate + rate * (to - from)) (sym window.is)
-    (volume_timed rate before window.front after window.last from to
+    (volume_timed rate before window.prefix after window.last from to
     (subst (λ (costs : List Cost). Passes rate before costs after from to) window.is passes))

@@ -43,7 +43,9 @@ asked bucket cost = record {
   last = cost.at;
 }
 
--- these costs passed, and from its last ask on the bucket lets through just what conforms to them
+-- these costs passed; from its last ask on the bucket lets through just what conforms to them, and its level is at most
+-- the burst
 pub record StandsFor (bucket : BucketState) (passed : List Cost) : Type 0 where
   pub past : All (λ cost. cost.at ≤ bucket.last) passed
+  pub level : bucket.level ≤ burst bucket.rate
   pub same : (cost : Cost) → bucket.last ≤ cost.at → LetsThrough bucket cost ↔ Conforms bucket.rate passed cost

@@ -11,12 +11,12 @@ use Rattle.record_codec.specs.Read.{Reader, and_then, done, such, tested, octet_
 abbrev pub AreOctets : List ℕ → Type 0
 AreOctets octets = (at : ℕ) → get_or octets at 0 < 256
 
-pub octets_behind : (octets front rest : List ℕ) → AreOctets octets → octets ≡ front ++ rest → AreOctets rest
-octets_behind octets front rest small is at =
-    let moved : get_or (front ++ rest) (length front + at) 0 ≡ get_or rest at 0 = get_or-append-add front rest at 0 in
-    let whole : get_or octets (length front + at) 0 ≡ get_or rest at 0
-    = ap (λ (all : List ℕ). get_or all (length front + at) 0) is ∙ moved in
-    omega (arith, small (length front + at), whole)
+pub octets_behind : (octets prefix rest : List ℕ) → AreOctets octets → octets ≡ prefix ++ rest → AreOctets rest
+octets_behind octets prefix rest small is at =
+    let moved : get_or (prefix ++ rest) (length prefix + at) 0 ≡ get_or rest at 0 = get_or-append-add prefix rest at 0 in
+    let whole : get_or octets (length prefix + at) 0 ≡ get_or rest at 0
+    = ap (λ (all : List ℕ). get_or all (length prefix + at) 0) is ∙ moved in
+    omega (arith, small (length prefix + at), whole)
 
 -- What a reader takes is the text of a value that fits, and the text of such a value is read again, whatever follows.
 pub record IsCodec {X : Type 0} (Fits : X → Type 0) (text : X → List ℕ) (reader : Reader X) : Type 0 where
@@ -125,9 +125,9 @@ pub reworded : {X : Type 0} {P : X → Type 0} {text other : X → List ℕ} {re
     → ((x : X) → text x ≡ other x) → IsCodec P other reader
 reworded {reader = reader} codec same = record {
   takes = λ octets x rest small e.
-      let t = codec.takes octets x rest small e in (t.0 ∙ ap (λ (front : List ℕ). front ++ rest) (same x), t.1);
+      let t = codec.takes octets x rest small e in (t.0 ∙ ap (λ (prefix : List ℕ). prefix ++ rest) (same x), t.1);
   again = λ x rest fits.
-      ap (λ (front : List ℕ). reader (front ++ rest)) (sym (same x)) ∙ codec.again x rest fits;
+      ap (λ (prefix : List ℕ). reader (prefix ++ rest)) (sym (same x)) ∙ codec.again x rest fits;
 }
 
 -- ---- octets, flags, and values behind a flag

@@ -20,7 +20,7 @@ use Rattle.address_book.specs.Book.{IsBook, slot_in}
 use Rattle.address_book.proofs.BookLemmas.{is_book-push}
 use Rattle.record_codec.specs.Saved.{SavedSubscriber, FileState, IsCount, IsSaved, AreSaved, IsFile, imsi_of}
 use Rattle.record_codec.specs.Spelling.{u8, u32, measured, subscriber_text, format_version, state}
-use Rattle.record_codec.specs.Read.{and_then, done, such, octet_at, number_at, is_slice, is_imsi, imsi_at, counters_fit, subscriber_at, subscribers_at, are_new, imsis_differ, is_version, is_pool, front_at, whole, file_at}
+use Rattle.record_codec.specs.Read.{and_then, done, such, octet_at, number_at, is_slice, is_imsi, imsi_at, counters_fit, subscriber_at, subscribers_at, are_new, imsis_differ, is_version, is_pool, fields_at, whole, file_at}
 use Rattle.record_codec.proofs.Codecs.{AreOctets, octets_behind, IsCodec, bind_some, some_is, like, under, field, last_field, such_codec, octet_codec}
 use Rattle.record_codec.proofs.Numbers.{codec_32, measured_codec, count_codec}
 use Rattle.record_codec.proofs.SessionCodecs.{session_codec}
@@ -229,7 +229,7 @@ no_imsis = record { distinct = tt; short = omega arith }
 -- ---- the whole file
 
 -- what the octets of a file have
-pub record IsFront (file : FileState) : Type 0 where
+pub record HasFields (file : FileState) : Type 0 where
   pub lines : IsCount file.lines
   pub moment : IsCount file.moment
   pub few : length file.subscribers ≤ 65533
@@ -244,9 +244,9 @@ pool_codec : IsCodec (λ n. n ≤ 65533) u32 (such is_pool (number_at w32))
 pool_codec =
     like (such_codec is_pool codec_32) (λ n h. leb-true n 65533 h.1) (λ n f. (omega (arith, f), le-leb n 65533 f))
 
-front_codec : IsCodec IsFront state front_at
-unfolding front_at
-front_codec =
+fields_codec : IsCodec HasFields state fields_at
+unfolding fields_at
+fields_codec =
     like (field {C = λ file. Unit {0}} (λ (r : FileState). format_version) version_codec (λ version version_fits.
     field (λ (r : FileState). r.lines) count_codec (λ lines lines_fits.
     field (λ (r : FileState). r.moment) count_codec (λ moment moment_fits.
@@ -271,17 +271,17 @@ front_codec =
     })
     (λ r f. (tt, (refl, (f.lines, (f.moment, (f.few, (f.subscribers, f.differ)))))))
 
-file_from_front : (file : FileState) → IsFront file → IsFile file
-file_from_front file front = record {
-  lines = front.lines;
-  moment = front.moment;
+file_from_fields : (file : FileState) → HasFields file → IsFile file
+file_from_fields file fields = record {
+  lines = fields.lines;
+  moment = fields.moment;
   book = book_from [] (map imsi_of file.subscribers) no_imsis
-      (omega (arith, front.few, length-map file.subscribers imsi_of)) front.differ;
-  subscribers = front.subscribers;
+      (omega (arith, fields.few, length-map file.subscribers imsi_of)) fields.differ;
+  subscribers = fields.subscribers;
 }
 
-front_from_file : (file : FileState) → IsFile file → IsFront file
-front_from_file file kept = record {
+fields_from_file : (file : FileState) → IsFile file → HasFields file
+fields_from_file file kept = record {
   lines = kept.lines;
   moment = kept.moment;
   few = omega (arith, kept.book.short, length-map file.subscribers imsi_of);
@@ -305,18 +305,18 @@ pub file_taken : (octets : List ℕ) (file : FileState) → AreOctets octets →
     → (octets ≡ state file) × IsFile file
 unfolding file_at
 file_taken octets file small e =
-    let b = bind_some (front_at octets) whole file e in
-    let t = front_codec.takes octets b.0.0 b.0.1 small b.1 in
+    let b = bind_some (fields_at octets) whole file e in
+    let t = fields_codec.takes octets b.0.0 b.0.1 small b.1 in
     let w = whole_is b.0 file b.2 in
     let text : octets ≡ state b.0.0
     = t.0 ∙ ap (λ (rest : List ℕ). state b.0.0 ++ rest) w.0 ∙ append-nil (state b.0.0) in
-    subst (λ (f : FileState). (octets ≡ state f) × IsFile f) w.1 (text, file_from_front b.0.0 t.1)
+    subst (λ (f : FileState). (octets ≡ state f) × IsFile f) w.1 (text, file_from_fields b.0.0 t.1)
 
 pub file_again : (file : FileState) → IsFile file → file_at (state file) ≡ Some file
 unfolding file_at
 file_again file kept =
-    ap (λ (all : List ℕ). option_and_then whole (front_at all)) (sym (append-nil (state file)))
-    ∙ ap (λ o. option_and_then whole o) (front_codec.again file [] (front_from_file file kept))
+    ap (λ (all : List ℕ). option_and_then whole (fields_at all)) (sym (append-nil (state file)))
+    ∙ ap (λ o. option_and_then whole o) (fields_codec.again file [] (fields_from_file file kept))
 
 pub one_file : (file other : FileState) → IsFile file → IsFile other → state file ≡ state other → file ≡ other
 one_file file other kept other_kept same =

@@ -22,11 +22,11 @@ use Rattle.record_codec.proofs.Codecs.{AreOctets, octets_behind, IsCodec, bind_s
 use Rattle.record_codec.proofs.Numbers.{codec_16, measured_codec}
 use Rattle.std.specs.Int.{w16}
 
-octets_before : (front rest : List ℕ) → AreOctets (front ++ rest) → AreOctets front
-octets_before front rest small at =
-    elim (cases_lt at (length front)) [
-      | inl lt ↦ omega (arith, small at, get_or_append_left front rest 0 at lt)
-      | inr le ↦ omega (arith, get_or_past front at 0 le)
+octets_before : (prefix rest : List ℕ) → AreOctets (prefix ++ rest) → AreOctets prefix
+octets_before prefix rest small at =
+    elim (cases_lt at (length prefix)) [
+      | inl lt ↦ omega (arith, small at, get_or_append_left prefix rest 0 at lt)
+      | inr le ↦ omega (arith, get_or_past prefix at 0 le)
     ]
 
 none_is : (fault : Option TBad) → is_none fault ≡ true → fault ≡ None

@@ -1,10 +1,9 @@
 -- What the makers of lists and sessions say, by the tests of the reader.
 use Rattle.std.proofs.Common.{◌≡◌, ℕ, ◌≤◌, ◌^◌, true, false, ltb, List, Some, sym, ap, subst, ◌∙◌, ◌<◌}
 use Rattle.std.specs.Prelude.{IfSome, nat_eq, is_none, slice_index, Result}
-use Rattle.std.proofs.lemmas.Bool.{false_from_ne_true, and_from, and_right, and_parts, eqb-true, ltb-true}
+use Rattle.std.proofs.lemmas.Bool.{false_from_ne_true, and_from, and_parts, eqb-true, ltb-true}
 use Rattle.tft_codec.specs.declared.filter.Filter.{Filter}
 use Rattle.tft_codec.specs.declared.tft.Tft.{Tft}
-use Rattle.tft_codec.specs.declared.fault.TBad.{TBad}
 use Rattle.tft_codec.specs.Filter.{AreFilters, ids}
 use Rattle.tft_codec.specs.Spelling.{Spells}
 use Rattle.tft_codec.specs.Reading.{tft_at}
@@ -73,6 +72,3 @@ makes_filter r octets t spelled begins made =
     let same : creates_some t ≡ is_filter octets = creates_one octets t spelled begins ∙ sym holds in
     let value : filter_of t ≡ filter_of (tft_at octets) = ap filter_of (sym read.value) in
     subst (λ b. Makes r b (filter_of (tft_at octets))) same (subst (λ f. Makes r (creates_some t) f) value made)
-
-pub no_filter_made : (octets : List ℕ) (fault : TBad) → first_fault octets ≡ Some fault → is_filter octets ≡ false
-no_filter_made octets fault is = and_right (begins_one octets) (is_none (first_fault octets)) (ap is_none is)

@@ -59,10 +59,10 @@ octets_codec n = record {
   takes = λ octets xs rest small e.
       let g = long_enough (ltb (length octets) n) (take n octets, drop n octets) (xs, rest) e in
       let long : n ≤ length octets = ltb-false _ _ g.0 in
-      let front_is : take n octets ≡ xs = ap (λ p. p.0) g.1 in
+      let prefix_is : take n octets ≡ xs = ap (λ p. p.0) g.1 in
       let rest_is : drop n octets ≡ rest = ap (λ p. p.1) g.1 in (
-        rw (← front_is, ← rest_is) (sym (take-append-drop n octets)),
-        rw (← front_is) (length-take-le n octets long),
+        rw (← prefix_is, ← rest_is) (sym (take-append-drop n octets)),
+        rw (← prefix_is) (length-take-le n octets long),
       );
   again = λ xs rest fits.
       let long : ltb (length (xs ++ rest)) n ≡ false = le-ltb _ _ (omega (arith, length-append xs rest, fits)) in
@@ -78,11 +78,11 @@ number_codec w limit wide = record {
       let long : byte_len w ≤ length octets = ltb-false _ _ g.0 in
       let n_is : from_be_bytes w (take (byte_len w) octets) ≡ n = ap (λ p. p.0) g.1 in
       let rest_is : drop (byte_len w) octets ≡ rest = ap (λ p. p.1) g.1 in
-      let small_front = octets_taken (byte_len w) octets small in
-      let front : to_be_bytes w n ≡ take (byte_len w) octets
-      = rw (← n_is) (wide.back (take (byte_len w) octets) (length-take-le (byte_len w) octets long) small_front) in (
-        rw (front, ← rest_is) (sym (take-append-drop (byte_len w) octets)),
-        rw (← n_is) (wide.below (take (byte_len w) octets) small_front),
+      let small_prefix = octets_taken (byte_len w) octets small in
+      let prefix : to_be_bytes w n ≡ take (byte_len w) octets
+      = rw (← n_is) (wide.back (take (byte_len w) octets) (length-take-le (byte_len w) octets long) small_prefix) in (
+        rw (prefix, ← rest_is) (sym (take-append-drop (byte_len w) octets)),
+        rw (← n_is) (wide.below (take (byte_len w) octets) small_prefix),
       );
   again = λ n rest fits.
       let len = wide.len n in

@@ -21,16 +21,16 @@ push_whole (first ∷ next ∷ pieces) piece whole last fits =
 -- those behind a broken list, a short piece, or of too many octets
 pub push_broken : (pieces : List (List ℕ)) (piece : List ℕ) → are_pieces pieces ≡ false
     → are_pieces (pieces ++ piece ∷ []) ≡ false
-push_broken pieces piece broken = false_from_ne_true _ (λ whole. false≢true (sym broken ∙ front pieces whole))
+push_broken pieces piece broken = false_from_ne_true _ (λ whole. false≢true (sym broken ∙ before pieces whole))
   where
-    front : (pieces : List (List ℕ)) → are_pieces (pieces ++ piece ∷ []) ≡ true → are_pieces pieces ≡ true
-    front [] whole = refl
-    front (only ∷ []) whole =
+    before : (pieces : List (List ℕ)) → are_pieces (pieces ++ piece ∷ []) ≡ true → are_pieces pieces ≡ true
+    before [] whole = refl
+    before (only ∷ []) whole =
         let same = eqb-true (length only) piece_len (and_parts (nat_eq (length only) piece_len) (nat_le (length piece) piece_len) whole).0 in
         le-leb (length only) piece_len (omega (arith, same))
-    front (first ∷ next ∷ pieces) whole =
+    before (first ∷ next ∷ pieces) whole =
         let parts = and_parts (nat_eq (length first) piece_len) (are_pieces (next ∷ pieces ++ piece ∷ [])) whole in
-        and_from (nat_eq (length first) piece_len) (are_pieces (next ∷ pieces)) parts.0 (front (next ∷ pieces) parts.1)
+        and_from (nat_eq (length first) piece_len) (are_pieces (next ∷ pieces)) parts.0 (before (next ∷ pieces) parts.1)
 
 pub push_late : (pieces : List (List ℕ)) (piece : List ℕ) → last_len pieces ≢ piece_len
     → are_pieces (pieces ++ piece ∷ []) ≡ false

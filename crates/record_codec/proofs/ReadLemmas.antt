@@ -51,20 +51,20 @@ state_read start a b room after line last done file before reads says =
     (line_more start a b room after line last done before reads)
 
 -- lines that say no state, whatever comes behind them
-pub begins_bad : (start a left : Option (List ℕ)) (room after : ℕ) (line : Text) (last : Bool) (front : List ℕ)
+pub begins_bad : (start a left : Option (List ℕ)) (room after : ℕ) (line : Text) (last : Bool) (prefix : List ℕ)
     (done : List Text) → WhereTold start a (λ octets rest. HasRead octets rest room done)
-    → Reads line_read.Line room after a (prepend_known front left) line last → SaysNone (done ++ line ∷ [])
+    → Reads line_read.Line room after a (prepend_known prefix left) line last → SaysNone (done ++ line ∷ [])
     → WhereTold start left (λ octets rest. IsBadState octets)
-begins_bad None a left room after line last front done before reads none = tt
-begins_bad (Some octets) None left room after line last front done before reads none = absurd before
-begins_bad (Some octets) (Some ahead) None room after line last front done before reads none = absurd reads
-begins_bad (Some octets) (Some ahead) (Some rest) room after line false front done before reads none =
-    let h = read_more (Some octets) (Some ahead) (Some (front ++ rest)) room after line false done refl before reads in
-    let begins : texts_of octets ≡ after_lines (done ++ line ∷ []) (texts_within after (front ++ rest))
-    = ap texts_of h.parts ∙ h.says (front ++ rest) in
-    inl (done ++ line ∷ [], texts_within after (front ++ rest), begins, none)
-begins_bad (Some octets) (Some ahead) (Some rest) room after line true front done before reads none =
-    let e = ends_last (Some octets) (Some ahead) (Some rest) room after line true front done refl before reads in
+begins_bad None a left room after line last prefix done before reads none = tt
+begins_bad (Some octets) None left room after line last prefix done before reads none = absurd before
+begins_bad (Some octets) (Some ahead) None room after line last prefix done before reads none = absurd reads
+begins_bad (Some octets) (Some ahead) (Some rest) room after line false prefix done before reads none =
+    let h = read_more (Some octets) (Some ahead) (Some (prefix ++ rest)) room after line false done refl before reads in
+    let begins : texts_of octets ≡ after_lines (done ++ line ∷ []) (texts_within after (prefix ++ rest))
+    = ap texts_of h.parts ∙ h.says (prefix ++ rest) in
+    inl (done ++ line ∷ [], texts_within after (prefix ++ rest), begins, none)
+begins_bad (Some octets) (Some ahead) (Some rest) room after line true prefix done before reads none =
+    let e = ends_last (Some octets) (Some ahead) (Some rest) room after line true prefix done refl before reads in
     let all = done ++ line ∷ [] in
     let texts = texts_of octets in
     let begins : texts ≡ after_lines all (stopped ended)
@@ -74,35 +74,35 @@ begins_bad (Some octets) (Some ahead) (Some rest) room after line true front don
     inl (all, stopped ended, begins, none)
 
 -- lines of a state, and no other one: they end, or go on with what is no line
-pub ends_first : (start a left : Option (List ℕ)) (room after : ℕ) (line : Text) (last : Bool) (front : List ℕ)
+pub ends_first : (start a left : Option (List ℕ)) (room after : ℕ) (line : Text) (last : Bool) (prefix : List ℕ)
     (done : List Text) → last ≡ true → WhereTold start a (λ octets rest. HasRead octets rest room done)
-    → Reads line_read.Line room after a (prepend_known front left) line last → others_in (done ++ line ∷ []) ≡ []
+    → Reads line_read.Line room after a (prepend_known prefix left) line last → others_in (done ++ line ∷ []) ≡ []
     → WhereTold start left (λ octets rest. IsBadState octets)
-ends_first start a left room after line last front done is before reads each =
+ends_first start a left room after line last prefix done is before reads each =
     told_map start left (λ octets rest. Reached stopped_at.Ended octets rest (done ++ line ∷ []))
     (λ octets rest. IsBadState octets) (λ octets rest e. inr (e.0.0, ap others_in e.1 ∙ each))
-    (ends_last start a left room after line last front done is before reads)
+    (ends_last start a left room after line last prefix done is before reads)
 
-pub ends_none : (start a left : Option (List ℕ)) (room after : ℕ) (line : Text) (last : Bool) (front : List ℕ)
+pub ends_none : (start a left : Option (List ℕ)) (room after : ℕ) (line : Text) (last : Bool) (prefix : List ℕ)
     (done : List Text) → WhereTold start a (λ octets rest. HasRead octets rest room done)
-    → Reads line_read.End room after a (prepend_known front left) line last → others_in done ≡ []
+    → Reads line_read.End room after a (prepend_known prefix left) line last → others_in done ≡ []
     → WhereTold start left (λ octets rest. IsBadState octets)
-ends_none start a left room after line last front done before reads each =
+ends_none start a left room after line last prefix done before reads each =
     told_map start left (λ octets rest. Reached stopped_at.Ended octets rest done) (λ octets rest. IsBadState octets)
     (λ octets rest e. inr (e.0.0, ap others_in e.1 ∙ each))
-    (ends_ended start a left room after line last front done before reads)
+    (ends_ended start a left room after line last prefix done before reads)
 
 -- or the source fails
 pub fails_first : (start a left : Option (List ℕ)) (room : ℕ) (now : Held) (line : Text) (last : Bool)
     (done : List Text) → IsUnfinished now → WhereTold start a (λ octets rest. HasRead octets rest room done)
-    → Reads line_read.ReadFault room now.room a (prepend_known now.front left) line last → others_in done ≡ []
+    → Reads line_read.ReadFault room now.room a (prepend_known now.buffered left) line last → others_in done ≡ []
     → WhereTold start left IsUndecided
 fails_first None a left room now line last done more before reads each = tt
 fails_first (Some octets) None left room now line last done more before reads each = absurd before
 fails_first (Some octets) (Some ahead) None room now line last done more before reads each = absurd reads
 fails_first (Some octets) (Some ahead) (Some rest) room now line last done more before reads each = record {
   texts = done;
-  unfinished = now.front;
+  unfinished = now.buffered;
   room = room;
   read = subst (λ next. HasRead octets next room done) (sym reads.octets_stay) before;
   no_newline = more.no_newline;
@@ -111,20 +111,20 @@ fails_first (Some octets) (Some ahead) (Some rest) room now line last done more 
   each = each;
 }
 
-pub stops_long : (start a left : Option (List ℕ)) (room after : ℕ) (line : Text) (last : Bool) (front : List ℕ)
+pub stops_long : (start a left : Option (List ℕ)) (room after : ℕ) (line : Text) (last : Bool) (prefix : List ℕ)
     (done : List Text) → WhereTold start a (λ octets rest. HasRead octets rest room done)
-    → Reads line_read.LineLong room after a (prepend_known front left) line last → others_in done ≡ []
+    → Reads line_read.LineLong room after a (prepend_known prefix left) line last → others_in done ≡ []
     → WhereTold start left (λ octets rest. IsLong octets)
-stops_long start a left room after line last front done before reads each =
+stops_long start a left room after line last prefix done before reads each =
     told_map start left (λ octets rest. Reached stopped_at.LineLong octets rest done) (λ octets rest. IsLong octets)
     (λ octets rest e. (e.0, ap others_in e.1 ∙ each))
-    (ends_long start a left room after line last front done before reads)
+    (ends_long start a left room after line last prefix done before reads)
 
-pub stops_big : (start a left : Option (List ℕ)) (room after : ℕ) (line : Text) (last : Bool) (front : List ℕ)
+pub stops_big : (start a left : Option (List ℕ)) (room after : ℕ) (line : Text) (last : Bool) (prefix : List ℕ)
     (done : List Text) → WhereTold start a (λ octets rest. HasRead octets rest room done)
-    → Reads line_read.TooLong room after a (prepend_known front left) line last → others_in done ≡ []
+    → Reads line_read.TooLong room after a (prepend_known prefix left) line last → others_in done ≡ []
     → WhereTold start left (λ octets rest. IsBig octets)
-stops_big start a left room after line last front done before reads each =
+stops_big start a left room after line last prefix done before reads each =
     told_map start left (λ octets rest. Reached stopped_at.TooLong octets rest done) (λ octets rest. IsBig octets)
     (λ octets rest e. (e.0, ap others_in e.1 ∙ each))
-    (ends_big start a left room after line last front done before reads)
+    (ends_big start a left room after line last prefix done before reads)

@@ -39,9 +39,9 @@ each_fits (first ∷ next ∷ pieces) are =
     let full = eqb-true (length first) piece_len parts.0 in
     (omega (arith, full), each_fits (next ∷ pieces) parts.1)
 
-front_of : (one other : List ℕ) → AllByRecursion IsByte (one ++ other) → AllByRecursion IsByte one
-front_of [] other all = tt
-front_of (octet ∷ one) other all = (all.0, front_of one other all.1)
+prefix_of : (one other : List ℕ) → AllByRecursion IsByte (one ++ other) → AllByRecursion IsByte one
+prefix_of [] other all = tt
+prefix_of (octet ∷ one) other all = (all.0, prefix_of one other all.1)
 
 rest_of : (one other : List ℕ) → AllByRecursion IsByte (one ++ other) → AllByRecursion IsByte other
 rest_of [] other all = all
@@ -55,7 +55,7 @@ each_piece (piece ∷ pieces) fits some bytes = (
   record {
     some = some.0;
     fits = fits.0;
-    bytes = All-from_recursion IsByte piece (front_of piece (joined pieces) bytes);
+    bytes = All-from_recursion IsByte piece (prefix_of piece (joined pieces) bytes);
   },
   each_piece pieces fits.1 some.1 (rest_of piece (joined pieces) bytes),
 )
@@ -172,15 +172,15 @@ tails : (one other : Text) (texts others : List Text) → one ∷ texts ≡ othe
 tails one other texts others same = cc
 
 -- the lines up to the first one that is none of a state are the same in all that begin with them
-pub one_front : (texts others behind more : List Text) (one other : Text) → others_in texts ≡ one ∷ []
+pub same_before : (texts others behind more : List Text) (one other : Text) → others_in texts ≡ one ∷ []
     → others_in others ≡ other ∷ [] → texts ++ behind ≡ others ++ more → texts ≡ others
-one_front [] others behind more one other first second same = cc
-one_front (text ∷ texts) [] behind more one other first second same = cc
-one_front (text ∷ texts) (next ∷ others) behind more one other first second same =
+same_before [] others behind more one other first second same = cc
+same_before (text ∷ texts) [] behind more one other first second same = cc
+same_before (text ∷ texts) (next ∷ others) behind more one other first second same =
     let head : text ≡ next = heads text next (texts ++ behind) (others ++ more) same in
     ap (λ ts. text ∷ ts)
     (by_piece (piece_in text)
-    (λ alone lone. one_front texts others behind more one other alone lone
+    (λ alone lone. same_before texts others behind more one other alone lone
     (tails text next (texts ++ behind) (others ++ more) same)) first (subst (λ t. others_in (t ∷ others) ≡ other ∷ []) (sym head) second))
     ∙ ap (λ t. t ∷ others) head
   where
@@ -194,8 +194,8 @@ one_front (text ∷ texts) (next ∷ others) behind more one other first second 
 pub one_said : ((file other : FileState) → IsFile file → IsFile other → state file ≡ state other → file ≡ other)
     → LinesSayOneState
 one_said one_file texts others behind more file other same first second =
-    let front : texts ≡ others = one_front texts others behind more trace_word trace_word first.trace second.trace same in (
-      front,
+    let prefix : texts ≡ others = same_before texts others behind more trace_word trace_word first.trace second.trace same in (
+      prefix,
       one_file file other first.kept second.kept
-          (sym first.octets ∙ ap (λ (ts : List Text). joined (pieces_in ts)) front ∙ second.octets),
+          (sym first.octets ∙ ap (λ (ts : List Text). joined (pieces_in ts)) prefix ∙ second.octets),
     )

@@ -93,10 +93,10 @@ goes_broken old new texts text piece heard is why broken =
 -- ---- another line ends the state
 
 -- the state that it ends
-pub state_found : (front : StateLines) (texts : List Text) (text : Text) (file : FileState) → HasHeard front texts
-    → piece_in text ≡ None → bytes_eq text trace_word ≡ true → front.broken ≡ false → front.octets.items ≡ state file → IsFile file
+pub state_found : (lines_heard : StateLines) (texts : List Text) (text : Text) (file : FileState) → HasHeard lines_heard texts
+    → piece_in text ≡ None → bytes_eq text trace_word ≡ true → lines_heard.broken ≡ false → lines_heard.octets.items ≡ state file → IsFile file
     → SaysState (texts ++ text ∷ []) file
-state_found front texts text file heard is trace broken octets kept =
+state_found lines_heard texts text file heard is trace broken octets kept =
     let s = stopped texts text [] heard.each is in
     record {
       whole = ap are_pieces s.0 ∙ not-false _ (sym heard.broken ∙ broken);
@@ -121,9 +121,9 @@ no_trace texts text each is other =
     }
 
 -- the pieces aren't whole
-pub no_pieces : (front : StateLines) (texts : List Text) (text : Text) → HasHeard front texts → piece_in text ≡ None
-    → front.broken ≡ true → SaysNone (texts ++ text ∷ [])
-no_pieces front texts text heard is broken =
+pub no_pieces : (lines_heard : StateLines) (texts : List Text) (text : Text) → HasHeard lines_heard texts → piece_in text ≡ None
+    → lines_heard.broken ≡ true → SaysNone (texts ++ text ∷ [])
+no_pieces lines_heard texts text heard is broken =
     let s = stopped texts text [] heard.each is in
     record {
       other = text;
@@ -133,10 +133,10 @@ no_pieces front texts text heard is broken =
     }
 
 -- the octets are no file's state
-pub no_state : (front : StateLines) (texts : List Text) (text : Text) → HasHeard front texts → piece_in text ≡ None
-    → front.broken ≡ false → ((file : FileState) → IsFile file → front.octets.items ≡ state file → ⊥)
+pub no_state : (lines_heard : StateLines) (texts : List Text) (text : Text) → HasHeard lines_heard texts → piece_in text ≡ None
+    → lines_heard.broken ≡ false → ((file : FileState) → IsFile file → lines_heard.octets.items ≡ state file → ⊥)
     → SaysNone (texts ++ text ∷ [])
-no_state front texts text heard is broken none =
+no_state lines_heard texts text heard is broken none =
     let s = stopped texts text [] heard.each is in
     record {
       other = text;

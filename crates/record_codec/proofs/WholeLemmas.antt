@@ -25,7 +25,7 @@ use Rattle.record_codec.specs.declared.fault.Fault.{Fault}
 use Rattle.record_codec.specs.declared.fault.Fault.TheVariants as fault
 use Rattle.record_codec.specs.Saved.{SavedSubscriber, FileState, IsFile, IsResting, all_saved, parts_of, imsi_of}
 use Rattle.record_codec.specs.Spelling.{state}
-use Rattle.record_codec.specs.Read.{Fails, FailsAt, and_then, done, such, tested, octet_at, number_at, count_at, is_slice, imsi_at, session_at, counters_at, counters_fit, subscriber_at, subscribers_at, are_new, is_version, is_pool, front_at, whole, file_at}
+use Rattle.record_codec.specs.Read.{Fails, FailsAt, and_then, done, such, tested, octet_at, number_at, count_at, is_slice, imsi_at, session_at, counters_at, counters_fit, subscriber_at, subscribers_at, are_new, is_version, is_pool, fields_at, whole, file_at}
 use Rattle.record_codec.proofs.Codecs.{AreOctets}
 use Rattle.record_codec.proofs.CounterCodecs.{counters_codec}
 use Rattle.record_codec.proofs.PieceLemmas.{made_parts}
@@ -242,7 +242,7 @@ pub file_parts : (octets r1 r2 r3 r4 r5 : List ℕ) (version lines moment count 
     → file_at octets
     ≡ cond (are_new [] imsis)
     (whole (record { lines = lines; moment = moment; subscribers = all_saved imsis subscribers }, r5)) None
-unfolding file_at front_at and_then such
+unfolding file_at fields_at and_then such
 file_parts octets r1 r2 r3 r4 r5 version lines moment count imsis subscribers e1 e2 e3 e4 e5 long =
     rw (e1, e2, e3, e4, e5, imsis_saved imsis subscribers long) (by_test (are_new [] imsis))
   where
@@ -263,7 +263,7 @@ pub file_fails : (octets r1 r2 r3 r4 : List ℕ) (version lines moment count : �
     → such is_version octet_at octets ≡ Some (version, r1) → count_at r1 ≡ Some (lines, r2)
     → count_at r2 ≡ Some (moment, r3) → such is_pool (number_at w32) r3 ≡ Some (count, r4)
     → Fails e (subscribers_at moment 0 count r4) → Fails e (file_at octets)
-unfolding file_at front_at and_then such
+unfolding file_at fields_at and_then such
 file_fails octets r1 r2 r3 r4 version lines moment count fault.NoMemory e1 e2 e3 e4 e5 = tt
 file_fails octets r1 r2 r3 r4 version lines moment count fault.NotState e1 e2 e3 e4 e5 = rw (e1, e2, e3, e4, e5) refl
 

@@ -453,8 +453,8 @@ is_version octet = octet == 1
 abbrev pub is_pool : ℕ → Bool
 is_pool count = nat_le count 65533
 
-unfoldable pub front_at : Reader FileState
-front_at = do
+unfoldable pub fields_at : Reader FileState
+fields_at = do
   version ← such is_version octet_at
   lines ← count_at
   moment ← count_at
@@ -467,4 +467,4 @@ abbrev pub whole : FileState × List ℕ → Option FileState
 whole found = if length found.1 == 0 then Some found.0 else None
 
 unfoldable pub file_at : List ℕ → Option FileState
-file_at octets = option_and_then whole (front_at octets)
+file_at octets = option_and_then whole (fields_at octets)

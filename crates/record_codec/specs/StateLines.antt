@@ -47,14 +47,14 @@ last_len (piece ∷ []) = length piece
 last_len (piece ∷ next ∷ pieces) = last_len (next ∷ pieces)
 
 -- these are lines of a state alone: their octets are kept while they may be those of one
-pub record HasHeard (front : StateLines) (texts : List Text) : Type 0 where
+pub record HasHeard (lines_heard : StateLines) (texts : List Text) : Type 0 where
   pub each : others_in texts ≡ []
-  pub broken : front.broken ≡ not (are_pieces (pieces_in texts))
-  pub octets : front.broken ≡ false → front.octets.items ≡ joined (pieces_in texts)
-  pub last : front.broken ≡ false → front.last ≡ last_len (pieces_in texts)
+  pub broken : lines_heard.broken ≡ not (are_pieces (pieces_in texts))
+  pub octets : lines_heard.broken ≡ false → lines_heard.octets.items ≡ joined (pieces_in texts)
+  pub last : lines_heard.broken ≡ false → lines_heard.last ≡ last_len (pieces_in texts)
 
 -- what the lines say with the one that was heard last
 abbrev pub Says : StateSaid → StateLines → List Text → Type 0
-Says said.More front texts = HasHeard front texts
-Says (said.Found file) front texts = SaysState texts file
-Says said.BadState front texts = SaysNone texts
+Says said.More lines_heard texts = HasHeard lines_heard texts
+Says (said.Found file) lines_heard texts = SaysState texts file
+Says said.BadState lines_heard texts = SaysNone texts

@@ -1,5 +1,5 @@
-//! Fields of one to eight octets at the front of octets, and values behind a flag or a length.
-ghost use Rattle.std.specs.Prelude.{◌<◌, ◌≤◌, ◌^◌, IfOk};
+//! Fields of one to eight octets at the start of octets, and values behind a flag or a length.
+ghost use Rattle.std.specs.Prelude.{◌<◌, ◌^◌, IfOk};
 ghost use Rattle.std.specs.Int.{w16, w32, w64};
 ghost use Rattle.record_codec.specs.Read.{Reads, octet_at, number_at, octets_at, measured_at, count_at, rate_at};
 ghost use Rattle.record_codec.specs.Read.{flag_at, option_at};
@@ -28,9 +28,9 @@ impl<'a> Input<'a> {
         if self.rest.len() < len {
             return Err(Fault::NotState);
         }
-        let (front, rest) = self.rest.split_at(len);
+        let (prefix, rest) = self.rest.split_at(len);
         self.rest = rest;
-        Ok(front)
+        Ok(prefix)
     }
 }
 
@@ -57,8 +57,8 @@ pub(crate) fn u16_at(input: &mut Input<'_>) -> Result<u16, Fault>
     if input.rest.len() < 2 {
         return Err(Fault::NotState);
     }
-    let (front, rest) = input.rest.split_at(2);
-    let number = u16::from_be_bytes([front[0], front[1]]);
+    let (prefix, rest) = input.rest.split_at(2);
+    let number = u16::from_be_bytes([prefix[0], prefix[1]]);
     input.rest = rest;
     Ok(number)
 }
@@ -69,8 +69,8 @@ pub(crate) fn u32_at(input: &mut Input<'_>) -> Result<u32, Fault>
     if input.rest.len() < 4 {
         return Err(Fault::NotState);
     }
-    let (front, rest) = input.rest.split_at(4);
-    let number = u32::from_be_bytes([front[0], front[1], front[2], front[3]]);
+    let (prefix, rest) = input.rest.split_at(4);
+    let number = u32::from_be_bytes([prefix[0], prefix[1], prefix[2], prefix[3]]);
     input.rest = rest;
     Ok(number)
 }
@@ -81,9 +81,9 @@ pub(crate) fn u64_at(input: &mut Input<'_>) -> Result<u64, Fault>
     if input.rest.len() < 8 {
         return Err(Fault::NotState);
     }
-    let (front, rest) = input.rest.split_at(8);
+    let (prefix, rest) = input.rest.split_at(8);
     let number = u64::from_be_bytes([
-        front[0], front[1], front[2], front[3], front[4], front[5], front[6], front[7],
+        prefix[0], prefix[1], prefix[2], prefix[3], prefix[4], prefix[5], prefix[6], prefix[7],
     ]);
     input.rest = rest;
     Ok(number)

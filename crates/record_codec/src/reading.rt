@@ -38,7 +38,7 @@ fn pool_at(input: &mut Input<'_>) -> Result<u32, Fault>
     Ok(count)
 }
 
-#[tactic(auto, unfolding(crate::specs::Read::file_at, crate::specs::Read::front_at, crate::specs::Read::and_then))]
+#[tactic(auto, unfolding(crate::specs::Read::file_at, crate::specs::Read::fields_at, crate::specs::Read::and_then))]
 fn file_of(alloc: Global, octets: &[u8]) -> Result<StateFile, Fault>
     ensures { Gives result (file_at octets.now) }
 {
@@ -64,6 +64,7 @@ fn file_of(alloc: Global, octets: &[u8]) -> Result<StateFile, Fault>
 pub fn read(alloc: Global, octets: &[u8]) -> Result<Option<StateFile>, NoMemory>
     // What is read is the file whose state the octets are, and what is such a state is read.
     ensures found { IfOk result (λ read. IfSome read (λ file. octets.now ≡ state file)) }
+    ensures valid { IfOk result (λ read. IfSome read IsFile) }
     ensures only { (file : FileState) → IsFile file → octets.now ≡ state file
         → IfOk result (λ read. read ≡ Some file) }
     ensures none { IfOk result (λ read. IfNone read

@@ -1,5 +1,5 @@
 //! A session with its bearers.
-ghost use Rattle.std.specs.Prelude.{◌≡◌, ◌≤◌, ◌^◌, ◌&&◌, nat_lt, IfOk, IfSome};
+ghost use Rattle.std.specs.Prelude.{◌≡◌, ◌^◌, ◌&&◌, nat_lt, IfOk, IfSome};
 ghost use Rattle.bearer_state.specs.Session.{IsKept};
 ghost use Rattle.record_codec.specs.Read.{Reads, times, option_at, peer_at, kept_at, phase_at, qos_at, bearer_at};
 ghost use Rattle.record_codec.specs.Read.{bearers_at, session_at, lives_below, is_active_phase, has_bearers_of};

@@ -40,14 +40,3 @@ impl Model for StateFile {
       subscribers = all_saved file.book file.subscribers.items;
     }) × (length file.subscribers.items ≡ length file.book) × AllByRecursion IsResting file.subscribers.items };
 }
-
-impl StateFile {
-    ghost use Rattle.record_codec.specs.Saved.{IsFile};
-
-    /// What every state file keeps.
-    pub fn known(&self)
-        ensures { IsFile self.now }
-    {
-        let _lines = self.lines;
-    }
-}

@@ -30,7 +30,7 @@ pub enum StateSaid {
 }
 
 impl StateLines {
-    ghost use Rattle.std.specs.Prelude.{◌≡◌, ◌++◌, ◌∷◌, [], List, Some, None, not, IfOk, OnOk};
+    ghost use Rattle.std.specs.Prelude.{◌≡◌, ◌++◌, ◌∷◌, [], List, Some, None, IfOk, OnOk};
     ghost use Rattle.pc_outside.specs.Texts.{Text};
     ghost use Rattle.record_codec.specs.StateLines.{HasHeard, Says, piece_in};
 
@@ -86,10 +86,7 @@ impl StateLines {
             return Ok(StateSaid::BadState);
         }
         match crate::read(alloc, &self.octets)? {
-            Some(file) => {
-                file.known();
-                Ok(StateSaid::Found(file))
-            }
+            Some(file) => Ok(StateSaid::Found(file)),
             None => Ok(StateSaid::BadState),
         }
     }

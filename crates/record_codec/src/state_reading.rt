@@ -31,11 +31,11 @@ pub fn read_state<S: Source>(
     source: &mut S,
     buf: &mut LineBuf,
 ) -> Result<StateRead, NoMemory>
-    requires fresh { buf.old ≡ record { line = []; last = false; front = []; room = 2 ^ 40 } }
+    requires fresh { buf.old ≡ record { line = []; last = false; buffered = []; room = 2 ^ 40 } }
 
     // What stands behind a state that was found is ahead, in the buffer and in the source.
     ensures found { IfOk result (λ read. Found read (S.left source.old)
-        (prepend_known buf.new.front (S.left source.new)) buf.new.room) }
+        (prepend_known buf.new.buffered (S.left source.new)) buf.new.room) }
     ensures room { IfOk result (λ read. buf.new.room ≤ 2 ^ 40) }
 
     // Why none was found.
@@ -53,10 +53,10 @@ pub fn read_state<S: Source>(
         → S.faults source.new ≡ S.faults source.old) }
     ensures no_fault_cut { OnErr result (S.faults source.new ≡ S.faults source.old) }
 {
-    let mut front = StateLines::new(alloc);
+    let mut lines_heard = StateLines::new(alloc);
     loop {
         match read_line(source, buf) {
-            LineRead::Line => match front.take(alloc, buf.line())? {
+            LineRead::Line => match lines_heard.take(alloc, buf.line())? {
                 StateSaid::Found(file) => return Ok(StateRead::Found(file)),
                 StateSaid::BadState => return Ok(StateRead::BadState),
                 StateSaid::More => {

@@ -1,5 +1,5 @@
 -- Lines that were read apart, behind others and before more octets.
-use Rattle.std.proofs.Common.{◌≡◌, ℕ, suc, ◌+◌, ◌≤◌, ◌⊎◌, Bool, true, false, List, [], ◌∷◌, ◌++◌, length, drop, Option, None, Some, Result, Ok, Err, IfOk, IfErr, ap, sym, ◌∙◌, refl, subst, arith, append_assoc, length-append, true≢false, not}
+use Rattle.std.proofs.Common.{◌≡◌, ℕ, suc, ◌+◌, ◌⊎◌, Bool, true, false, List, [], ◌∷◌, ◌++◌, length, drop, Option, None, Some, Result, Ok, Err, IfOk, IfErr, ap, sym, ◌∙◌, refl, subst, arith, append_assoc, true≢false, not}
 use Rattle.std.proofs.lemmas.List.{drop-drop}
 use Rattle.std.specs.Io.KnownBytes.{prepend_known}
 use Rattle.pc_outside.specs.Limits.{newline}
@@ -45,11 +45,11 @@ push_first lines one octets middle behind first second =
     append_first lines (one ∷ []) octets middle behind first (behind, second, refl)
 
 -- the lines of all of some octets, and those of the octets behind them
-pub joined_first : (lines more : List Apart) (front back left behind : List ℕ) → AreFirst lines front left → left ≡ []
-    → AreFirst more back behind → AreFirst (lines ++ more) (front ++ back) behind
-joined_first lines more front back left behind first none second =
-    append_first lines more (front ++ back) back behind
-    (subst (λ xs. AreFirst lines (front ++ back) (xs ++ back)) none (more_behind lines front left back first)) second
+pub joined_first : (lines more : List Apart) (prefix back left behind : List ℕ) → AreFirst lines prefix left → left ≡ []
+    → AreFirst more back behind → AreFirst (lines ++ more) (prefix ++ back) behind
+joined_first lines more prefix back left behind first none second =
+    append_first lines more (prefix ++ back) back behind
+    (subst (λ xs. AreFirst lines (prefix ++ back) (xs ++ back)) none (more_behind lines prefix left back first)) second
 
 -- a line of octets from some place on
 pub at_place : (one : Apart) (octets : List ℕ) (at : ℕ) (rest : List ℕ) → rest ≡ drop at octets
@@ -75,16 +75,12 @@ behind_is one octets behind is =
     past [] = refl
     past (octet ∷ text) = past text
 
-pub len_within : (one : Apart) (octets behind : List ℕ) → IsFirst one octets behind → one.len + 1 ≤ length octets
-len_within one octets behind is =
-    omega (arith, is.long, ap length is.parts, length-append is.text (newline ∷ behind))
-
 -- a reader of lines would find it, whatever stands behind the octets
-pub reads_first : (one : Apart) (front behind : List ℕ) (room after : ℕ) (left : Option (List ℕ))
-    (is : IsFirst one front behind) → room ≡ one.len + 1 + after
-    → Reads read.Line room after (prepend_known front left) (prepend_known behind left) is.text false
-reads_first one front behind room after None is given = tt
-reads_first one front behind room after (Some left) is given = record {
+pub reads_first : (one : Apart) (prefix behind : List ℕ) (room after : ℕ) (left : Option (List ℕ))
+    (is : IsFirst one prefix behind) → room ≡ one.len + 1 + after
+    → Reads read.Line room after (prepend_known prefix left) (prepend_known behind left) is.text false
+reads_first one prefix behind room after None is given = tt
+reads_first one prefix behind room after (Some left) is given = record {
   no_newline = is.no_newline;
   short = is.short;
   form = record {
@@ -93,9 +89,9 @@ reads_first one front behind room after (Some left) is given = record {
   };
 }
 
-pub holds_first : (one : Apart) (front behind : List ℕ) (room after : ℕ) (is : IsFirst one front behind)
-    → room ≡ one.len + 1 + after → HoldsLine room after front behind is.text false
-holds_first one front behind room after is given = record {
+pub holds_first : (one : Apart) (prefix behind : List ℕ) (room after : ℕ) (is : IsFirst one prefix behind)
+    → room ≡ one.len + 1 + after → HoldsLine room after prefix behind is.text false
+holds_first one prefix behind room after is given = record {
   no_newline = is.no_newline;
   short = is.short;
   form = record { parts = is.parts; given = given ∙ ap (λ n. n + 1 + after) is.long };
@@ -107,11 +103,11 @@ pub none_first : (lines : List Apart) (octets : List ℕ) → lines ≡ []
 none_first lines octets none = (octets, rw none refl)
 
 -- a part that breaks off, whatever stands behind it
-pub breaks_off : (first : LineBlock) (front back : List ℕ) → IsPart first front → not first.whole ≡ true
-    → IsPart first (front ++ back)
-breaks_off first front back is broken = record {
+pub breaks_off : (first : LineBlock) (prefix back : List ℕ) → IsPart first prefix → not first.whole ≡ true
+    → IsPart first (prefix ++ back)
+breaks_off first prefix back is broken = record {
   behind = is.behind ++ back;
-  lines = more_behind first.lines.items front is.behind back is.lines;
+  lines = more_behind first.lines.items prefix is.behind back is.lines;
   whole = λ whole. absurd (true≢false (sym (sym (ap not whole) ∙ broken)));
 }
 

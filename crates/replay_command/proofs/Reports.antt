@@ -29,7 +29,7 @@ use Rattle.trace_run.proofs.EntryLemmas.{texts-append}
 use Rattle.trace_run.proofs.NotedLemmas.{cut_so, noted_behind, on_text, own_so, same_note, some_noted}
 use Rattle.replay_command.specs.Epoch.{IsReplayed}
 use Rattle.replay_command.specs.Standing.{Replayed, ReplayedAll, ReplayedOn, Stands, events_behind, meant_in, setup_of}
-use Rattle.replay_command.specs.declared.epochs.Patience.{Patience}
+use Rattle.slice_core.specs.declared.pace.Pace.{Pace}
 use Rattle.replay_command.specs.declared.replay.Replay.{Replay}
 use Rattle.replay_command.proofs.Stands.{lawful_more, many_so, next_so, stands_more}
 
@@ -62,19 +62,6 @@ begins_so now slices room lane is represents behind none = record {
 }
 
 -- ---- one line more
-
--- how many lines there are at most
-pub few_lines : (first now : Replay) (done : List Line) (latest : ℕ) (closed : List (List Line)) (open_ : List Line)
-    (sent waiting : List ℕ) → (so_far : Replayed first now done latest closed open_ sent waiting)
-    → now.rest.lines + length now.lines.items ≡ length done
-few_lines first now done latest closed open_ sent waiting so_far =
-    omega (
-      arith,
-      so_far.stands.behind.count,
-      ap length so_far.parts,
-      ap length so_far.kept,
-      length-append (lines_in closed) open_,
-    )
 
 pub takes_so : (first old now : Replay) (done : List Line) (latest : ℕ) (closed : List (List Line)) (open_ : List Line)
     (sent waiting : List ℕ) (line : Line) → Replayed first old done latest closed open_ sent waiting
@@ -166,7 +153,7 @@ closes_so first old now done latest closed open_ sent n text on = record {
 
 -- what running its lines gives
 pub runs_on : (first old now : Replay) (done : List Line) (latest : ℕ) (closed : List (List Line))
-    (open_ : List Line) (sent : List ℕ) (bad : Option LineBad) (n : ℕ) (before after : List ℕ) (pace : Patience)
+    (open_ : List Line) (sent : List ℕ) (bad : Option LineBad) (n : ℕ) (before after : List ℕ) (pace : Pace)
     → Replayed first old done latest closed open_ sent before
     → IsReplayed old.rest old.lines.items pace bad n old.places before after now.rest
     → now.lines.items ≡ [] → now.places ≡ old.places

@@ -20,7 +20,7 @@ use Rattle.slice_core.specs.Lines.{Counted, is_answered}
 use Rattle.trace_run.specs.Entries.{closing_text, lines_text}
 use Rattle.trace_run.specs.Noted.{noted}
 use Rattle.replay_command.specs.Epoch.{IsReplayed}
-use Rattle.replay_command.specs.declared.epochs.Patience.{Patience}
+use Rattle.slice_core.specs.declared.pace.Pace.{Pace}
 use Rattle.replay_command.specs.Standing.{IsLawfulNext, Stands, events_behind, meant_in}
 
 -- what the closing of the next epoch says of it
@@ -78,32 +78,27 @@ stands_more setup rest new closed told lines entry stands closes =
           (next_so setup rest new closed told lines entry stands closes slots wide));
     }
 
--- ---- an epoch that was run: the gateway and the lines are those that were given
+-- ---- an epoch that was run: the gateway is that which was given
 
-pub few_so : (old given : Rest) (lines lent : List Line) → given ≡ old → lent ≡ lines
-    → old.lines + length lines ≤ 2 ^ 39 → given.lines + length lent ≤ 2 ^ 39
-few_so old given lines lent same lent_is few =
-    omega (arith, few, ap (λ (rest : Rest). rest.lines) same, ap length lent_is)
+pub few_so : (old given : Rest) (lines : List Line) → given ≡ old → old.lines + length lines ≤ 2 ^ 39
+    → given.lines + length lines ≤ 2 ^ 39
+few_so old given lines same few = omega (arith, few, ap (λ (rest : Rest). rest.lines) same)
 
-pub later_so : (old given : Rest) (lines lent : List Line) → given ≡ old → lent ≡ lines → AreLater old.latest lines
-    → AreLater given.latest lent
-later_so old given lines lent same lent_is later =
-    subst (AreLater given.latest) (sym lent_is)
-    (subst (λ (rest : Rest). AreLater rest.latest lines) (sym same) later)
+pub later_so : (old given : Rest) (lines : List Line) → given ≡ old → AreLater old.latest lines
+    → AreLater given.latest lines
+later_so old given lines same later = subst (λ (rest : Rest). AreLater rest.latest lines) (sym same) later
 
-pub replayed_so : (old given : Rest) (lines lent : List Line) (pace : Patience) (bad : Option LineBad) (n : ℕ)
-    (places : Bool) (before after : List ℕ) (new : Rest) (told : EpochReport) → given ≡ old → lent ≡ lines
-    → Closes given lent new told → new.latest ≡ latest_behind given.latest lent
+pub replayed_so : (old given : Rest) (lines : List Line) (pace : Pace) (bad : Option LineBad) (n : ℕ)
+    (places : Bool) (before after : List ℕ) (new : Rest) (told : EpochReport) → given ≡ old
+    → Closes given lines new told → new.latest ≡ latest_behind given.latest lines
     → Counted (pace.patience + 1) (count_by is_refused told.lines) (count_by is_answered told.lines) given.fulls new.fulls
     → after ≡ before ++ (lines_text places told.lines ++ lines_text places (noted bad n) ++ closing_text places told)
     → IsReplayed old lines pace bad n places before after new
-replayed_so old given lines lent pace bad n places before after new told same lent_is closes latest refusals said =
+replayed_so old given lines pace bad n places before after new told same closes latest refusals said =
     record {
       told = told;
-      closes = subst (λ rest. Closes rest lines new told) same
-          (subst (λ taken. Closes given taken new told) lent_is closes);
-      latest = latest ∙ ap (latest_behind given.latest) lent_is
-          ∙ ap (λ (rest : Rest). latest_behind rest.latest lines) same;
+      closes = subst (λ rest. Closes rest lines new told) same closes;
+      latest = latest ∙ ap (λ (rest : Rest). latest_behind rest.latest lines) same;
       refusals = subst (λ (rest : Rest). Counted (pace.patience + 1) (count_by is_refused told.lines)
           (count_by is_answered told.lines) rest.fulls new.fulls) same refusals;
       said = said;

@@ -1,5 +1,5 @@
 -- What a line means among others, by what it means apart from them.
-use Rattle.std.proofs.Common.{◌≡◌, ℕ, ◌-◌, ◌^◌, ◌⊎◌, inl, inr, Bool, true, false, List, [], ◌∷◌, Option, refl, ap, sym, ◌∙◌, arith, cond, Result, Ok, Err}
+use Rattle.std.proofs.Common.{◌≡◌, ℕ, ◌-◌, ◌^◌, ◌⊎◌, inl, inr, Bool, true, false, List, [], ◌∷◌, refl, ap, sym, ◌∙◌, arith, cond, Result, Ok, Err}
 use Rattle.std.proofs.lemmas.Bool.{le-ltb}
 use Rattle.text_fields.specs.Fields.{fields_of, has_empty_field}
 use Rattle.trace_lines.specs.declared.bad.LineBad.{LineBad}
@@ -9,10 +9,6 @@ use Rattle.trace_lines.specs.Line.{Line}
 use Rattle.trace_lines.specs.Refused.{◌>>=◌}
 use Rattle.trace_lines.specs.Meaning.{number_meaning, kind_meaning, moment_meaning, line_of_fields, line_meaning, not_before}
 use Rattle.trace_lines.proofs.AloneLemmas.{meant_alone}
-use Rattle.pc_outside.proofs.ToldLemmas.{told_map}
-use Rattle.trace_run.specs.Coming.{Next}
-use Rattle.trace_run.specs.Coming as next
-use Rattle.trace_run.specs.Next.{Says, Tells}
 use Rattle.replay_command.specs.Apart.{MeansApart, numbered}
 
 -- ---- the number is no part of what the text says
@@ -68,9 +64,3 @@ told_bad least number text (Err bad) why (inr means) told =
     inr (meant_among least number text (Err bad) means ∙ sym told)
 
 -- ---- where memory ran out behind a line
-
-pub tells_memory : (what : Next) (number least room after : ℕ) (start now : Option (List ℕ))
-    → Tells what number least room after start now → Tells next.NoMemory number least room after start now
-tells_memory what number least room after start now tells =
-    told_map start now (λ octets rest. Says what number least room after octets rest)
-    (λ octets rest. Says next.NoMemory number least room after octets rest) (λ octets rest says. tt) tells

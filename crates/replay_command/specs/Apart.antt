@@ -1,5 +1,5 @@
 -- Lines that were read apart from those before them, one behind another.
-use Rattle.std.specs.Prelude.{◌≡◌, ℕ, ◌≤◌, ◌⊎◌, Bool, true, List, [], ◌∷◌, ◌++◌, length, Result, Ok, Err}
+use Rattle.std.specs.Prelude.{◌≡◌, ℕ, ◌≤◌, ◌⊎◌, true, List, [], ◌∷◌, ◌++◌, length, Result, Ok, Err}
 use Rattle.pc_outside.specs.Limits.{newline, line_max}
 use Rattle.pc_outside.specs.Line.{NoNewline}
 use Rattle.trace_lines.specs.Line.{Line}

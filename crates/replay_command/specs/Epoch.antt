@@ -10,12 +10,12 @@ use Rattle.front_core.specs.Closing.{Closes}
 use Rattle.slice_core.specs.Lines.{Counted, is_answered}
 use Rattle.trace_run.specs.Entries.{closing_text, lines_text}
 use Rattle.trace_run.specs.Noted.{noted}
-use Rattle.replay_command.specs.declared.epochs.Patience.{Patience}
+use Rattle.slice_core.specs.declared.pace.Pace.{Pace}
 
 -- The report is a lawful one of the lines, whatever the schedule; it is told with the note of a bad line, if there is
 -- one; and the count of full answers rose by the tries of each refusal, as many as the patience says and one, and by
 -- those that failed of each command or packet that was accepted, at most as many as the patience says.
-pub record IsReplayed (old : Rest) (lines : List Line) (pace : Patience) (bad : Option LineBad) (n : ℕ) (places : Bool)
+pub record IsReplayed (old : Rest) (lines : List Line) (pace : Pace) (bad : Option LineBad) (n : ℕ) (places : Bool)
     (before after : List ℕ) (new : Rest) : Type 0 where
   pub told : EpochReport
   pub closes : Closes old lines new told

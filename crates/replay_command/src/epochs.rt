@@ -12,7 +12,7 @@ ghost use Rattle.replay_command.specs.Epoch.{IsReplayed};
 use crate::push_blocks;
 use at_rest::AtRest;
 use front_core::{Ended, FrontEpoch};
-use slice_core::{OpenGate, run_epoch};
+use slice_core::{OpenGate, Pace, run_epoch};
 use slot_execution::ToldEpoch;
 use std::alloc::{AllocError, Global};
 use std::mem;
@@ -22,27 +22,19 @@ use text_fields::Text;
 use trace_lines::{LineBad, TraceLine};
 use trace_run::push_closing;
 
-/// How patiently an epoch is run: how often a line whose queue or lane is full is tried again before it is refused, and
-/// how often the front pumps behind the last line, so that the slices get on before they are stopped.
-#[derive(Clone, Copy)]
-pub struct Patience {
-    pub patience: u32,
-    pub linger: u32,
-}
-
 // Appends what is told of an epoch, with the note of a bad line of this number behind the entries of its lines.
-fn tell<R: Threads + Sync>(
+fn tell<'p, R: Threads + Sync>(
     rt: &R,
     alloc: Global,
     report: &mut Text,
-    epoch: FrontEpoch,
+    epoch: FrontEpoch<'p>,
     bad: Option<LineBad>,
     number: u64,
     places: bool,
     buffers: &mut Vec<Text>,
 ) -> Result<(), AllocError>
-    ensures { OnOk result (report.new ≡ report.old ++ (lines_text places (told_by epoch).lines
-        ++ lines_text places (noted bad number) ++ closing_text places (told_by epoch))) }
+    ensures { OnOk result (report.new ≡ report.old ++ (lines_text places (told_by epoch.entry).lines
+        ++ lines_text places (noted bad number) ++ closing_text places (told_by epoch.entry))) }
 {
     let ToldEpoch {
         lines,
@@ -60,7 +52,7 @@ pub(crate) fn replay_lines<R: Threads + Wait + Sync>(
     rt: &R,
     rest: &mut AtRest,
     lines: &mut Vec<TraceLine>,
-    pace: Patience,
+    pace: Pace,
     bad: Option<LineBad>,
     number: u64,
     places: bool,
@@ -76,19 +68,47 @@ pub(crate) fn replay_lines<R: Threads + Wait + Sync>(
         rest.new) }
     ensures emptied { OnOk result (lines.new.items ≡ []) }
 {
-    let alloc = *lines.allocator();
-    let given = mem::replace(rest, AtRest::new(alloc, 1, 1, 1));
-    let Ended { epoch, rest: left } = run_epoch(
+    let gate = OpenGate;
+    replay_lent(
         rt,
-        alloc,
-        given,
+        rest,
         lines.as_slice(),
-        pace.patience,
-        pace.linger,
-        &OpenGate,
+        pace,
+        bad,
+        number,
+        places,
+        buffers,
+        report,
+        &gate,
     )?;
+    lines.clear();
+    Ok(())
+}
+
+// The same of lines that lend their octets till their text is made.
+fn replay_lent<'p, R: Threads + Wait + Sync>(
+    rt: &'p R,
+    rest: &mut AtRest,
+    lines: &'p [TraceLine],
+    pace: Pace,
+    bad: Option<LineBad>,
+    number: u64,
+    places: bool,
+    buffers: &mut Vec<Text>,
+    report: &mut Text,
+    gate: &'p OpenGate,
+) -> Result<(), AllocError>
+    requires behind { (prior : List Line) × IsBehind rest.old prior }
+    requires represents { (before : Histories) × RepresentsAll rest.old before }
+    requires few { rest.old.lines + length lines.now ≤ 2 ^ 39 }
+    requires late { AreLater rest.old.latest lines.now }
+
+    ensures { OnOk result (IsReplayed rest.old lines.now pace bad number places report.old report.new rest.new) }
+{
+    let alloc = *buffers.allocator();
+    let given = mem::replace(rest, AtRest::new(alloc, 1, 1, 1));
+    let Ended { epoch, rest: left } = run_epoch(rt, alloc, given, lines, pace, gate)?;
     *rest = left;
     tell(rt, alloc, report, epoch, bad, number, places, buffers)?;
-    lines.clear();
     Ok(())
 }

@@ -13,9 +13,9 @@ mod running;
 mod telling;
 mod text_blocks;
 
-pub use epochs::Patience;
 pub use reader::BlockReader;
 pub use replayer::Replayer;
 pub use running::run_report_in_blocks;
+pub use slice_core::Pace;
 pub use telling::push_entries;
 pub use text_blocks::push_blocks;

@@ -1,5 +1,5 @@
 //! Lines that are read apart from those before them, in threads.
-ghost use Rattle.std.specs.Prelude.{◌≡◌, ◌+◌, ◌<◌, ◌≤◌, ◌++◌, ℕ, List, length, drop, IfOk, IfSome};
+ghost use Rattle.std.specs.Prelude.{◌+◌, ◌<◌, ◌≤◌, ◌++◌, ℕ, List, length, drop, IfOk, IfSome};
 ghost use Rattle.std.specs.Thread.{IsSync};
 ghost use Rattle.replay_command.specs.Apart.{IsFirst, IsPart};
 
@@ -40,13 +40,13 @@ pub(crate) fn read_parts<R: Threads + Sync>(
     if octets.len() <= PART_LEN || middle == 0 {
         return read_part(alloc, octets);
     }
-    let (front, back) = octets.split_at(middle);
+    let (prefix, back) = octets.split_at(middle);
     let (first, second) = join(
         rt,
         || -> Result<LineBlock, AllocError>
             requires { IsSync R.row }
-            ensures { IfOk result (λ part. IsPart part front.entry.now) }
-        { read_parts(rt, alloc, front) },
+            ensures { IfOk result (λ part. IsPart part prefix.entry.now) }
+        { read_parts(rt, alloc, prefix) },
         || -> Result<LineBlock, AllocError>
             requires { IsSync R.row }
             ensures { IfOk result (λ part. IsPart part back.entry.now) }
@@ -68,8 +68,8 @@ fn behind_newline(octets: &[u8], place: usize) -> usize
 
 // One part behind the other, unless the first breaks off.
 fn both(first: LineBlock, second: LineBlock) -> Result<LineBlock, AllocError>
-    ensures { (front back : List ℕ) → IsPart first front → IsPart second back
-        → IfOk result (λ part. IsPart part (front ++ back)) }
+    ensures { (prefix back : List ℕ) → IsPart first prefix → IsPart second back
+        → IfOk result (λ part. IsPart part (prefix ++ back)) }
 {
     if !first.whole {
         return Ok(first);

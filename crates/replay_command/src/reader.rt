@@ -43,13 +43,13 @@ impl<'r, R> Model for BlockReader<'r, R> {
     ghost view = { λ reader. reader.buf };
 
     ghost invariant = { λ reader. (behind : List ℕ)
-        × AreFirst (into_iter_items reader.lines) reader.buf.front behind };
+        × AreFirst (into_iter_items reader.lines) reader.buf.buffered behind };
 }
 
 impl<'r, R> BlockReader<'r, R> {
     /// A reader that nothing was read into.
     pub fn new(rt: &'r R, alloc: Global) -> Result<BlockReader<'r, R>, AllocError>
-        ensures { IfOk result (λ reader. reader ≡ record { line = []; last = false; front = []; room = input_max }) }
+        ensures { IfOk result (λ reader. reader ≡ record { line = []; last = false; buffered = []; room = input_max }) }
     {
         Ok(BlockReader {
             rt,
@@ -78,7 +78,7 @@ impl<'r, R: Threads + Sync> LineReader for BlockReader<'r, R> {
             Some(one) => give(&mut self.buf, one, line, number, least),
             None => {
                 let next = next_line(line, source, &mut self.buf, number, least);
-                self.lines = ahead(self.rt, self.alloc, is_line(&next), self.buf.front());
+                self.lines = ahead(self.rt, self.alloc, is_line(&next), self.buf.buffered());
                 next
             }
         }
@@ -98,14 +98,14 @@ fn ahead<R: Threads + Sync>(
     rt: &R,
     alloc: Global,
     behind_line: bool,
-    front: &[u8],
+    octets: &[u8],
 ) -> IntoIter<Apart, Global>
-    ensures { (behind : List ℕ) × AreFirst (into_iter_items result) front.now behind }
+    ensures { (behind : List ℕ) × AreFirst (into_iter_items result) octets.now behind }
 {
-    if !behind_line || front.len() <= PART_LEN {
+    if !behind_line || octets.len() <= PART_LEN {
         return none_read(alloc);
     }
-    match read_parts(rt, alloc, front) {
+    match read_parts(rt, alloc, octets) {
         Ok(part) => part.lines.into_iter(),
         Err(AllocError) => none_read(alloc),
     }
@@ -119,14 +119,14 @@ fn none_read(alloc: Global) -> IntoIter<Apart, Global>
 
 // Gives the first line held, of which this was read.
 fn give(buf: &mut LineBuf, one: Apart, place: &mut TraceLine, number: u64, least: Moment) -> Next
-    requires { (behind : List ℕ) × IsFirst one buf.old.front behind }
+    requires { (behind : List ℕ) × IsFirst one buf.old.buffered behind }
 
     ensures tells { (left : Option (List ℕ)) → Tells (said_in result place.new) number least buf.old.room buf.new.room
-        (prepend_known buf.old.front left) (prepend_known buf.new.front left) }
+        (prepend_known buf.old.buffered left) (prepend_known buf.new.buffered left) }
     ensures room { TakesRoom (said_in result place.new) buf.old.room buf.new.room }
     ensures given { Gives (said_in result place.new) number least }
     ensures no_fault { result ≡ Next.ReadFault → ⊥ }
-    ensures behind { (behind : List ℕ) → IsFirst one buf.old.front behind → buf.new.front ≡ behind }
+    ensures behind { (behind : List ℕ) → IsFirst one buf.old.buffered behind → buf.new.buffered ≡ behind }
 {
     let len = one.len;
     buf.give(len);

@@ -10,9 +10,11 @@ ghost use Rattle.trace_run.specs.Entries.{charges_text};
 ghost use Rattle.trace_run.specs.Takers.{IsNextOf};
 ghost use Rattle.replay_command.specs.Standing.{Replayed, ReplayedAll, ReplayedOn, setup_of};
 
-use crate::epochs::{Patience, replay_lines};
+use crate::Pace;
+use crate::epochs::replay_lines;
 use at_rest::AtRest;
 use std::alloc::{AllocError, Global};
+use std::mem;
 use std::sync::Wait;
 use std::thread::Threads;
 use text_fields::Text;
@@ -24,7 +26,7 @@ use trace_run::{push_noted, push_opens};
 pub(crate) struct Replay {
     rest: AtRest,
     lines: Vec<TraceLine>,
-    pace: Patience,
+    pace: Pace,
     places: bool,
     /// What texts of blocks are made in.
     buffers: Vec<Text>,
@@ -36,7 +38,7 @@ impl Replay {
         slices: u8,
         room: u32,
         lane: u32,
-        pace: Patience,
+        pace: Pace,
         places: bool,
     ) -> Replay
         requires slices { (1 ≤ slices) × (slices ≤ 64) }
@@ -56,16 +58,16 @@ impl Replay {
         }
     }
 
-    /// Keeps a copy of a line.
-    pub(crate) fn keep(&mut self, line: &TraceLine) -> Result<(), AllocError>
+    /// Keeps a line. One without octets is left in its place.
+    pub(crate) fn keep(&mut self, line: &mut TraceLine) -> Result<(), AllocError>
         ensures { (first : Replay) (done : List Line) (latest : ℕ) (closed : List (List Line)) (open_ : List Line)
             (sent waiting : List ℕ) → Replayed first self.old done latest closed open_ sent waiting
-            → IsNextOf done latest line.now
-            → OnOk result (Replayed first self.new (done ++ line.now ∷ []) line.now.moment closed
-            (open_ ++ line.now ∷ []) sent waiting) }
+            → IsNextOf done latest line.old
+            → OnOk result (Replayed first self.new (done ++ line.old ∷ []) line.old.moment closed
+            (open_ ++ line.old ∷ []) sent waiting) }
     {
-        let copy = line.try_clone()?;
-        self.lines.push(copy)?;
+        let own = mem::replace(line, TraceLine::new(*self.lines.allocator()));
+        self.lines.push(own)?;
         Ok(())
     }
 

@@ -4,7 +4,7 @@ ghost use Rattle.std.specs.Thread.{IsSync};
 ghost use Rattle.lawful_run.specs.Setup.{sliced};
 ghost use Rattle.replay_command.specs.Standing.{Replayed, setup_of};
 
-use crate::epochs::Patience;
+use crate::Pace;
 use crate::replay::Replay;
 use std::alloc::{AllocError, Global};
 use std::sync::Wait;
@@ -29,7 +29,7 @@ impl<'r, R: Threads + Wait + Sync> Replayer<'r, R> {
         slices: u8,
         room: u32,
         lane: u32,
-        pace: Patience,
+        pace: Pace,
         places: bool,
     ) -> Replayer<'r, R>
         requires slices { (1 ≤ slices) × (slices ≤ 64) }
@@ -59,7 +59,7 @@ impl<'r, R: Threads + Wait + Sync> Reporter for Replayer<'r, R> {
     ghost represents = { λ first now done latest closed open_ sent waiting. IsSync R.row
         × Replayed first.replay now.replay done latest closed open_ sent waiting };
 
-    fn take(&mut self, line: &TraceLine, _text: &mut Text) -> Result<(), AllocError> {
+    fn take(&mut self, line: &mut TraceLine, _text: &mut Text) -> Result<(), AllocError> {
         self.replay.keep(line)
     }
 

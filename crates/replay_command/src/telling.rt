@@ -9,10 +9,10 @@ use front_core::FrontEntry;
 use slot_execution::ToldEntry;
 use std::alloc::AllocError;
 use text_fields::Text;
-use trace_run::{push_answer, push_judged, push_judged_placed, push_note, push_refusal};
+use trace_run::{push_answer, push_note, push_packet, push_placed, push_refusal};
 
 // Appends the line of an entry, with its place or without.
-fn push_entry(report: &mut Text, told: &FrontEntry, places: bool) -> Result<(), AllocError>
+fn push_entry(report: &mut Text, told: &FrontEntry<'_>, places: bool) -> Result<(), AllocError>
     ensures { OnOk result (report.new ≡ report.old
         ++ line_of (report_entry.Line (line_shown places (entry_told told.now)))) }
 {
@@ -34,11 +34,18 @@ fn push_entry(report: &mut Text, told: &FrontEntry, places: bool) -> Result<(), 
             parked,
         } => {
             if places {
-                push_judged_placed(
-                    report, *line, *slot, *number, *commands, verdict, *place, *parked,
+                push_placed(
+                    report,
+                    *line,
+                    *slot,
+                    *number,
+                    *commands,
+                    verdict.lent(),
+                    *place,
+                    *parked,
                 )
             } else {
-                push_judged(report, *line, *slot, *number, *commands, verdict)
+                push_packet(report, *line, *slot, *number, *commands, verdict.lent())
             }
         }
         ToldEntry::Refusal { line, slot, packet } => push_refusal(report, *line, *slot, *packet),
@@ -48,7 +55,7 @@ fn push_entry(report: &mut Text, told: &FrontEntry, places: bool) -> Result<(), 
 /// Appends the lines of entries, with places or without.
 pub fn push_entries(
     report: &mut Text,
-    entries: &[FrontEntry],
+    entries: &[FrontEntry<'_>],
     places: bool,
 ) -> Result<(), AllocError>
     ensures { OnOk result (report.new ≡ report.old ++ lines_text places (map entry_told entries.now)) }

@@ -1,5 +1,5 @@
 //! Texts that are made by blocks in threads.
-ghost use Rattle.std.specs.Prelude.{◌≡◌, ◌<◌, ◌≤◌, ◌++◌, flat_map, length, map, vec_len, OnOk, IfOk};
+ghost use Rattle.std.specs.Prelude.{◌≡◌, ◌<◌, ◌≤◌, ◌++◌, flat_map, map, vec_len, OnOk, IfOk};
 ghost use Rattle.std.specs.Thread.{IsSync};
 ghost use Rattle.front_core.specs.Filled.{entry_told};
 ghost use Rattle.trace_run.specs.Entries.{lines_text};
@@ -17,32 +17,23 @@ const BLOCK_LEN: usize = 16_384;
 /// Appends the lines of entries as `push_entries` does, and lets the entries go. Many are told by blocks, in as many
 /// threads as there are blocks, each into a buffer of its own. Buffers are kept: the next text of as many entries takes
 /// hardly any memory.
-pub fn push_blocks<R: Threads + Sync>(
+pub fn push_blocks<'p, R: Threads + Sync>(
     rt: &R,
     alloc: Global,
-    entries: Vec<FrontEntry>,
+    entries: Vec<FrontEntry<'p>>,
     places: bool,
     buffers: &mut Vec<Text>,
     report: &mut Text,
 ) -> Result<(), AllocError>
-    ensures { OnOk result (report.new ≡ report.old ++ lines_text places (map entry_told entries.items)) }
+    ensures { OnOk result (report.new ≡ report.old ++ lines_text places (map entry_told entries.entry.items)) }
 {
     if entries.len() <= BLOCK_LEN {
         return push_entries(report, entries.as_slice(), places);
     }
     let kept = mem::replace(buffers, Vec::new(alloc));
     let own = buffers_for(alloc, kept, (entries.len() - 1) / BLOCK_LEN + 1)?;
-    let told = told_by_blocks(rt, entries.as_slice(), places, own)?;
-    let front = mem::replace(report, Text::new(alloc));
-    let texts = told.as_slice();
-    let (whole, ()) = join(
-        rt,
-        move || -> Result<Text, AllocError>
-            ensures { IfOk result (λ whole. whole ≡ front ++ flat_map (λ text. text) texts.entry.now) }
-        { with_all(front, texts) },
-        move || drop(entries),
-    );
-    *report = whole?;
+    let told = told_by_blocks(rt, entries, places, own)?;
+    push_texts(report, told.as_slice())?;
     *buffers = told;
     Ok(())
 }
@@ -59,16 +50,17 @@ fn buffers_for(alloc: Global, kept: Vec<Text>, many: usize) -> Result<Vec<Text>,
     Ok(buffers)
 }
 
-// The lines of entries, those of each block by a thread of its own: in each buffer the text of one block.
-fn told_by_blocks<R: Threads + Sync>(
+// The lines of entries, those of each block by a thread of its own, which lets the block go: in each buffer the text of
+// one block.
+fn told_by_blocks<'p, R: Threads + Sync>(
     rt: &R,
-    entries: &[FrontEntry],
+    entries: Vec<FrontEntry<'p>>,
     places: bool,
     buffers: Vec<Text>,
 ) -> Result<Vec<Text>, AllocError>
     requires { 0 < vec_len buffers }
     ensures { IfOk result (λ told. flat_map (λ text. text) told.items
-        ≡ lines_text places (map entry_told entries.now)) }
+        ≡ lines_text places (map entry_told entries.entry.items)) }
 {
     let many = buffers.len();
     if many == 1 {
@@ -76,27 +68,28 @@ fn told_by_blocks<R: Threads + Sync>(
     }
     let mut first_buffers = buffers;
     let other_buffers = first_buffers.split_off(many / 2)?;
-    let (front, back) = entries.split_at(front_len(entries.len(), many));
+    let mut prefix = entries;
+    let back = prefix.split_off(prefix_len(prefix.len(), many))?;
     let (first, second) = join(
         rt,
         move || -> Result<Vec<Text>, AllocError>
             requires sync { IsSync R.row }
             requires buffers { 0 < vec_len first_buffers }
             ensures { IfOk result (λ told. flat_map (λ text. text) told.items
-                ≡ lines_text places (map entry_told front.entry.now)) }
-        { told_by_blocks(rt, front, places, first_buffers) },
+                ≡ lines_text places (map entry_told prefix.entry.items)) }
+        { told_by_blocks(rt, prefix, places, first_buffers) },
         move || -> Result<Vec<Text>, AllocError>
             requires sync { IsSync R.row }
             requires buffers { 0 < vec_len other_buffers }
             ensures { IfOk result (λ told. flat_map (λ text. text) told.items
-                ≡ lines_text places (map entry_told back.entry.now)) }
+                ≡ lines_text places (map entry_told back.entry.items)) }
         { told_by_blocks(rt, back, places, other_buffers) },
     );
     both(first?, second?)
 }
 
 // How many of so many entries go into the first half of these buffers.
-fn front_len(entries: usize, buffers: usize) -> usize
+fn prefix_len(entries: usize, buffers: usize) -> usize
     requires { 0 < buffers }
     ensures { result ≤ entries }
 {
@@ -105,18 +98,18 @@ fn front_len(entries: usize, buffers: usize) -> usize
 
 // The lines of entries in the one buffer.
 fn told_in_one(
-    entries: &[FrontEntry],
+    entries: Vec<FrontEntry<'_>>,
     places: bool,
     buffers: Vec<Text>,
 ) -> Result<Vec<Text>, AllocError>
     requires { vec_len buffers ≡ 1 }
     ensures { IfOk result (λ told. flat_map (λ text. text) told.items
-        ≡ lines_text places (map entry_told entries.now)) }
+        ≡ lines_text places (map entry_told entries.entry.items)) }
 {
     let mut buffers = buffers;
     let buffer = &mut buffers[0];
     buffer.clear();
-    push_entries(buffer, entries, places)?;
+    push_entries(buffer, entries.as_slice(), places)?;
     Ok(buffers)
 }
 
@@ -130,13 +123,12 @@ fn both(first: Vec<Text>, second: Vec<Text>) -> Result<Vec<Text>, AllocError>
     Ok(told)
 }
 
-// A text, and behind it those of a list.
-fn with_all(front: Text, texts: &[Text]) -> Result<Text, AllocError>
-    ensures { IfOk result (λ whole. whole ≡ front ++ flat_map (λ text. text) texts.now) }
+// Appends the texts of a list.
+fn push_texts(report: &mut Text, texts: &[Text]) -> Result<(), AllocError>
+    ensures { OnOk result (report.new ≡ report.old ++ flat_map (λ text. text) texts.now) }
 {
-    let mut whole = front;
     for text in texts {
-        whole.extend_from_slice(text.as_slice())?;
+        report.extend_from_slice(text.as_slice())?;
     }
-    Ok(whole)
+    Ok(())
 }

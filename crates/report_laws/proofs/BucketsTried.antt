@@ -5,10 +5,9 @@ use Rattle.rate_policer.specs.declared.cost.Cost.{Cost}
 use Rattle.rate_policer.specs.Conforming.{cost_of}
 use Rattle.rate_policer.specs.Buckets.{BucketState, StandsFor, asked, lets_through}
 use Rattle.bearer_state.specs.declared.version.ActiveBearer.{ActiveBearer}
-use Rattle.packet_steps.specs.declared.meters.Meters.{Meters}
 use Rattle.packet_steps.specs.Past.{Past, moment_of}
 use Rattle.packet_steps.specs.Verdicts.{at_moment}
-use Rattle.packet_steps.specs.Meters.{MetersStand, bucket_for}
+use Rattle.packet_steps.specs.Meters.{MetersState, MetersStand, bucket_for}
 use Rattle.packet_steps.specs.Plans.{Tries}
 use Rattle.packet_steps.specs.Running.{cost_in, left_for}
 use Rattle.packet_steps.proofs.HistoryLemmas.{Asked, tried_so}
@@ -32,7 +31,7 @@ asked_so old octets at = record {
 }
 
 -- octets of an active bearer are tried at a moment that isn't earlier than the last
-pub left_tries : (meters : Meters) (past : Past) (bearer : ActiveBearer) (up : Bool) (octets at : ℕ)
+pub left_tries : (meters : MetersState) (past : Past) (bearer : ActiveBearer) (up : Bool) (octets at : ℕ)
     → MetersStand meters past → Contains past.version.bearers bearer → moment_of past ≤ at
     → Tries (at_moment past at) bearer up octets (left_for meters bearer up octets at)
 left_tries meters past bearer up octets at stands there late =
@@ -41,7 +40,7 @@ left_tries meters past bearer up octets at stands there late =
     (lets_through old (cost_in old octets at)) refl stands there late (asked_so old octets at)
 
 -- or at that of the last one
-pub left_tries_now : (meters : Meters) (past : Past) (bearer : ActiveBearer) (up : Bool) (octets at : ℕ)
+pub left_tries_now : (meters : MetersState) (past : Past) (bearer : ActiveBearer) (up : Bool) (octets at : ℕ)
     → MetersStand meters past → Contains past.version.bearers bearer → moment_of past ≡ at
     → Tries past bearer up octets (left_for meters bearer up octets at)
 left_tries_now meters past bearer up octets at stands there now =

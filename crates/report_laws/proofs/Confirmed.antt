@@ -1,5 +1,5 @@
 -- An audit finds nothing to refute in a lawful report without places.
-use Rattle.std.proofs.Common.{◌≡◌, ℕ, ◌+◌, ◌≤◌, false, true, Bool, List, [], ◌∷◌, ◌++◌, map, length, refl, sym, ap, ◌∙◌, subst, arith, inl, inr, None, Result, Ok, Err}
+use Rattle.std.proofs.Common.{◌≡◌, ℕ, ◌+◌, ◌≤◌, false, List, [], ◌∷◌, map, length, refl, sym, ap, ◌∙◌, subst, arith, inl, inr, None, Result, Ok, Err}
 use Rattle.std.specs.List.{All}
 use Rattle.std.proofs.lemmas.List.Elements.{All-from_recursion}
 use Rattle.demux.specs.Trace.{book_of}
@@ -13,16 +13,16 @@ use Rattle.trace_lines.specs.declared.bad.LineBad.{LineBad}
 use Rattle.trace_lines.proofs.InputRanges.{AreLines, lines_then, read_is_line}
 use Rattle.lawful_run.specs.Report.{Report, entries_of}
 use Rattle.lawful_run.specs.Run.{IsRun}
-use Rattle.lawful_run.specs.Setup.{Setup, slices_of, solo}
+use Rattle.lawful_run.specs.Setup.{Setup, slices_of}
 use Rattle.lawful_run.specs.Trace.{epochs_told}
 use Rattle.report_laws.proofs.WithoutPlaces.{left_out}
 use Rattle.lawful_run.proofs.InRange.{told_few, told_in_range}
 use Rattle.audit_core.specs.Findings.{IsOf}
-use Rattle.audit_core.specs.Said.{marker, trace_from}
+use Rattle.audit_core.specs.Said.{trace_from}
 use Rattle.pc_outside.specs.Texts.{Text}
 use Rattle.audit_core.proofs.OneFinding.{one_finding}
 use Rattle.audit_core.proofs.SaidLemmas.{report_behind, trace_before}
-use Rattle.report_laws.specs.Confirming.{AreHeld, IsOwnReport, OwnReportIsConfirmed, OwnReportIsNeverRefuted, audited, lines_of}
+use Rattle.report_laws.specs.Confirming.{AreHeld, OwnReportIsConfirmed, OwnReportIsNeverRefuted, audited, lines_of}
 use Rattle.report_laws.specs.Shown.{report_shown}
 use Rattle.report_laws.proofs.EntriesIn.{entries_in}
 use Rattle.report_laws.proofs.OneThread.{entries_shown, lawful_on_slices}

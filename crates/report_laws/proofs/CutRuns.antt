@@ -1,5 +1,5 @@
 -- A trace that was cut behind a FENCE, saved and resumed.
-use Rattle.std.proofs.Common.{◌≡◌, ℕ, false, List, ◌++◌, map, ◌∙◌}
+use Rattle.std.proofs.Common.{ℕ, false, List, ◌++◌, map, ◌∙◌}
 use Rattle.std.specs.List.{flat_map}
 use Rattle.pc_outside.specs.Faults.{Rises}
 use Rattle.report_lines.specs.declared.entry.Entry.TheVariants as entry

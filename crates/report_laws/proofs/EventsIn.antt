@@ -3,7 +3,6 @@ use Rattle.std.proofs.Common.{ℕ, ◌<◌, ◌≤◌, ◌^◌, Option, None, So
 use Rattle.std.specs.List.{AllByRecursion}
 use Rattle.std.proofs.lemmas.List.Elements.{All-from_recursion}
 use Rattle.control_steps.specs.Row.{row_of}
-use Rattle.control_steps.specs.declared.command.CommandKind.{CommandKind}
 use Rattle.gate_model.specs.Events.{commands_of}
 use Rattle.gate_model.specs.SlotPast.{effects_after, past_of, reply_after}
 use Rattle.gate_model.specs.declared.event.Event.{Event}
@@ -12,7 +11,7 @@ use Rattle.lawful_run.specs.Outcomes as made_of
 use Rattle.pc_base.specs.declared.effect.Effect.{Effect}
 use Rattle.pc_base.specs.declared.reply.Reply.{Reply}
 use Rattle.report_lines.specs.Ranges.{IsEffect, IsEffected, IsOctets, IsVerdict}
-use Rattle.demux.specs.Ranges.{IsCommandInRange, IsOctet}
+use Rattle.demux.specs.Ranges.{IsOctet}
 use Rattle.report_laws.proofs.Marks.{Mark, marks}
 use Rattle.lawful_run.specs.Ranges.{EventIn, PacketIn, PastIn}
 use Rattle.lawful_run.proofs.Octets.{reply_some}

@@ -2,7 +2,7 @@
 use Rattle.std.proofs.Common.{◌≡◌, ◌≢◌, ℕ, ◌+◌, ◌<◌, ◌≤◌, IfSome, List, [], ◌∷◌, ◌++◌, length, set, refl, sym, ap, subst, ◌∙◌, inl, inr, arith, length-append, length-set}
 use Rattle.std.proofs.lemmas.Bool.{cases_eq}
 use Rattle.charging_book.specs.Accounts as book
-use Rattle.packet_steps.specs.Meters.{new_meter}
+use Rattle.packet_steps.specs.Meters.{no_meters, unused}
 use Rattle.packet_steps.proofs.NewLemmas.{new_stands}
 use Rattle.gate_model.specs.declared.event.Event.{Event}
 use Rattle.subscriber.specs.Standing.{Represents, SubscriberState, last_of, new_subscriber}
@@ -122,8 +122,8 @@ new_represents : (slot destination : ℕ) → Represents (new_subscriber slot de
 new_represents slot destination = record {
   session = refl;
   version = refl;
-  counters = new_stands (new_meter 0 0) (record { opens = []; moments = []; rows = [] }) [] slot refl
-      (record { lawful = tt; opens = refl; moments = refl; rows = refl; within = omega arith }) refl;
+  counters = new_stands (record { shared = unused; own = no_meters }) (record { opens = []; moments = []; rows = [] }) []
+      slot refl refl (record { lawful = tt; opens = refl; moments = refl; rows = refl; within = omega arith }) refl;
   commands = refl;
   packets = refl;
 }

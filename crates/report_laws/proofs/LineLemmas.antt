@@ -7,7 +7,7 @@ use Rattle.demux.specs.Asked.{note}
 use Rattle.demux.specs.Line.{asked}
 use Rattle.demux.specs.Resolved.{decided, book_after, booked, slot_of}
 use Rattle.demux.specs.Resolved as resolving
-use Rattle.demux.specs.Trace.{Meaning, move, book_of, decisions, destination_after, meant}
+use Rattle.demux.specs.Trace.{move, book_of, decisions, destination_after, meant}
 use Rattle.demux.specs.Trace as trace
 use Rattle.demux.specs.Tunnel as tunnels
 use Rattle.demux.specs.declared.decision.Decision.{Decision}

@@ -52,11 +52,11 @@ marks-append slot before (event.Packet p ∷ events) more =
     (append_assoc before (event.Packet p ∷ []) events))
 
 -- no packet has more commands before it than there are
-before_within : (front later : List Event) (most : ℕ) → length (commands_of (front ++ later)) ≤ most
-    → length (commands_of front) ≤ most
-before_within front later most few =
-    let parts : length (commands_of (front ++ later)) ≡ length (commands_of front) + length (commands_of later) =
-    ap length (filter_map-append _ front later) ∙ length-append (commands_of front) (commands_of later) in
+before_within : (prefix later : List Event) (most : ℕ) → length (commands_of (prefix ++ later)) ≤ most
+    → length (commands_of prefix) ≤ most
+before_within prefix later most few =
+    let parts : length (commands_of (prefix ++ later)) ≡ length (commands_of prefix) + length (commands_of later) =
+    ap length (filter_map-append _ prefix later) ∙ length-append (commands_of prefix) (commands_of later) in
     omega (arith, parts, few)
 
 pub marks_within : (slot most : ℕ) (before events : List Event) → length (commands_of (before ++ events)) ≤ most

@@ -1,5 +1,5 @@
 -- The same of the octets of a trace and of the text of its report.
-use Rattle.std.proofs.Common.{◌≡◌, ◌≢◌, ℕ, ◌+◌, ◌<◌, ◌≤◌, ◌^◌, Bool, true, false, nat_lt, nat_le, if◌then◌else◌, List, [], ◌∷◌, ◌++◌, map, length, length-append, take, All, refl, sym, ap, ◌∙◌, subst, arith, append_assoc, append-nil, Result, Ok, Err, Option, None, bytes_eq}
+use Rattle.std.proofs.Common.{◌≡◌, ◌≢◌, ℕ, ◌+◌, ◌<◌, ◌≤◌, ◌^◌, Bool, true, false, nat_lt, nat_le, if◌then◌else◌, List, [], ◌∷◌, ◌++◌, map, length, length-append, take, All, refl, sym, ap, ◌∙◌, subst, arith, append_assoc, append-nil, Result, Ok, Err, None, bytes_eq}
 use Rattle.std.specs.List.{flat_map, join_with_byte, slice_split}
 use Rattle.std.proofs.lemmas.Bool.{leb-false}
 use Rattle.std.proofs.lemmas.List.{length-take, take_all}
@@ -22,7 +22,7 @@ use Rattle.trace_lines.specs.Line.{Line}
 use Rattle.trace_lines.specs.Meaning.{line_meaning}
 use Rattle.trace_lines.specs.declared.bad.LineBad.{LineBad}
 use Rattle.pc_outside.proofs.Pieces.{all_differ, ends_line}
-use Rattle.lawful_run.specs.Report.{Report, entries_of, report_text, texts_of as texts_told}
+use Rattle.lawful_run.specs.Report.{entries_of, texts_of as texts_told}
 use Rattle.lawful_run.specs.Setup.{Setup, slices_of}
 use Rattle.lawful_run.specs.Trace.{IsReport, epochs_told}
 use Rattle.lawful_run.proofs.InRange.{octets_in_range, told_few}
@@ -70,10 +70,10 @@ some_joined [] some = absurd (omega (arith, some))
 some_joined (first ∷ texts) some = joined_octets first texts
 
 -- octets that end with a newline are such lines
-cut_lines : (octets front : List ℕ) → octets ≡ front ++ newline ∷ [] → octets ≡ octets_of (pieces newline front)
-cut_lines octets front whole =
-    whole ∙ ap (λ text. text ++ newline ∷ []) (sym (joined-pieces newline front))
-    ∙ sym (some_joined (pieces newline front) (omega (arith, length-slice_split ends_line front)))
+cut_lines : (octets prefix : List ℕ) → octets ≡ prefix ++ newline ∷ [] → octets ≡ octets_of (pieces newline prefix)
+cut_lines octets prefix whole =
+    whole ∙ ap (λ text. text ++ newline ∷ []) (sym (joined-pieces newline prefix))
+    ∙ sym (some_joined (pieces newline prefix) (omega (arith, length-slice_split ends_line prefix)))
 
 -- a trace that is read whole
 piece_first : (full : Bool) (number least : ℕ) (text : Text) (rest : List Text) → 0 < length rest
@@ -368,27 +368,27 @@ entries_of_octets setup octets report lawful =
 -- what an audit reads
 own_lines : (under : Setup) (octets text : List ℕ) (own : IsOwnText under octets text)
     → (texts_of (audited_octets octets text)).stop ≡ said.ended
-    → (texts_of (audited_octets octets text)).lines ≡ audited (pieces newline own.front) own.report
+    → (texts_of (audited_octets octets text)).lines ≡ audited (pieces newline own.prefix) own.report
 own_lines under octets text own stop =
-    let trace : List Text = pieces newline own.front in
+    let trace : List Text = pieces newline own.prefix in
     let lines : List Text = lines_of own.report in
-    let same : octets ≡ octets_of trace = cut_lines octets own.front own.whole in
+    let same : octets ≡ octets_of trace = cut_lines octets own.prefix own.whole in
     let report_lacks : AllLack newline lines =
     subst (AllLack newline) (sym (texts_shown (entries_of own.report) ∙ ap (map entry_text) (sym (entries_shown own.report))))
     (entries_lack (entries_of (report_shown own.report)) (entries_of_octets under octets own.report own.lawful)) in
     texts_read (audited_octets octets text) (trace ++ marker ∷ lines)
-    (all_lack trace (marker ∷ lines) (pieces_lack newline own.front) (marker_lacks, report_lacks))
+    (all_lack trace (marker ∷ lines) (pieces_lack newline own.prefix) (marker_lacks, report_lacks))
     (ap (λ o. o ++ (marker ++ newline ∷ text)) same
     ∙ ap (λ t. octets_of trace ++ (marker ++ newline ∷ t)) (own.written ∙ sym (told_text (entries_of own.report)))
     ∙ ap (λ rest. octets_of trace ++ rest) (sym (append_assoc marker (newline ∷ []) (octets_of lines)))
     ∙ sym (octets-append trace (marker ∷ lines))) stop
 
 own_report : (under : Setup) (octets text : List ℕ) (own : IsOwnText under octets text)
-    → IsOwnReport under (pieces newline own.front) own.report
+    → IsOwnReport under (pieces newline own.prefix) own.report
 own_report under octets text own =
-    let trace : List Text = pieces newline own.front in
-    let same : octets ≡ octets_of trace = cut_lines octets own.front own.whole in
-    let read : ReadWhole octets trace = input_read octets trace (pieces_lack newline own.front) same own.ends in
+    let trace : List Text = pieces newline own.prefix in
+    let same : octets ≡ octets_of trace = cut_lines octets own.prefix own.whole in
+    let read : ReadWhole octets trace = input_read octets trace (pieces_lack newline own.prefix) same own.ends in
     let whole : WholeTrace trace =
     whole_trace 1 0 trace (subst (λ (input : Input). input.stop ≡ ended) read.same own.ends) in
     record {
@@ -400,7 +400,7 @@ own_report under octets text own =
 pub own_text_confirmed : OwnTextIsConfirmed
 own_text_confirmed under setup octets text held own stop =
     subst (λ (lines : List Text). Finds setup lines None) (sym (own_lines under octets text own stop))
-    (own_confirmed under setup (pieces newline own.front) own.report held (own_report under octets text own))
+    (own_confirmed under setup (pieces newline own.prefix) own.report held (own_report under octets text own))
 
 pub own_text_never_refuted : OwnTextIsNeverRefuted
 own_text_never_refuted under setup octets text found held own stop finds =

@@ -5,7 +5,7 @@ use Rattle.trace_lines.specs.Line.{Line}
 use Rattle.demux.specs.Destinations.{bound_for}
 use Rattle.demux.specs.Resolved.{book_after, decided, slot_of}
 use Rattle.demux.specs.Texts.{move_note}
-use Rattle.demux.specs.Trace.{Meaning, book_of, command, decisions, destination_after, meant, move, packet}
+use Rattle.demux.specs.Trace.{book_of, command, decisions, destination_after, meant, move, packet}
 use Rattle.demux.specs.Trace as trace
 use Rattle.demux.specs.declared.decision.Decision.{Decision}
 use Rattle.demux.specs.declared.decision.Decision.TheVariants.{Command, Packet, Move, Note}

@@ -4,8 +4,6 @@ use Rattle.trace_lines.specs.Input.{Input, input_of}
 use Rattle.lawful_run.specs.Report.{Report}
 use Rattle.lawful_run.specs.Setup.{Setup, solo}
 use Rattle.lawful_run.specs.Trace.{IsReport}
-use Rattle.command_words.specs.declared.jobs.Lanes.{Lanes}
-use Rattle.command_words.specs.declared.turns.AskedTurns.{AskedTurns}
 use Rattle.drive_command.specs.Driven.{IsDrivenReport}
 use Rattle.pepc.specs.Drive.{schedule_asked}
 use Rattle.pepc.specs.Replay.{setup_asked}
@@ -19,7 +17,7 @@ use Rattle.report_laws.proofs.OctetsConfirmed.{own_text_confirmed, own_text_neve
 own_text : (under : Setup) (may_have : Input → Report → Type 0) → AreLawful under may_have → (octets text : List ℕ)
     → IsOwnRun may_have octets text → IsOwnText under octets text
 own_text under may_have are octets text own = record {
-  front = own.front;
+  prefix = own.prefix;
   whole = own.whole;
   ends = own.wrote.0;
   report = own.wrote.2.report;

@@ -238,20 +238,20 @@ unparked before (line.C answered) = tt
 unparked before (line.P judged) = tt
 unparked before (line.F refused) = tt
 
-all_unparked : (front lines : List LineTold) → EachFrom ParkedBehindMoves front (map bare lines)
-all_unparked front [] = tt
-all_unparked front (now ∷ later) = (unparked front now.entry, all_unparked (front ++ bare now ∷ []) later)
+all_unparked : (prefix lines : List LineTold) → EachFrom ParkedBehindMoves prefix (map bare lines)
+all_unparked prefix [] = tt
+all_unparked prefix (now ∷ later) = (unparked prefix now.entry, all_unparked (prefix ++ bare now ∷ []) later)
 
 -- what holds of each line
 each_bare : (P : List LineTold → LineTold → List LineTold → Type 0)
     → ((before : List LineTold) (now : LineTold) (later : List LineTold) → P before now later
     → P (map bare before) (bare now) (map bare later))
-    → (front lines : List LineTold) → EachFrom P front lines → EachFrom P (map bare front) (map bare lines)
-each_bare P step front [] each = tt
-each_bare P step front (now ∷ later) each = (
-  step front now later each.0,
-  subst (λ f. EachFrom P f (map bare later)) (map-append bare front (now ∷ []))
-      (each_bare P step (front ++ now ∷ []) later each.1),
+    → (prefix lines : List LineTold) → EachFrom P prefix lines → EachFrom P (map bare prefix) (map bare lines)
+each_bare P step prefix [] each = tt
+each_bare P step prefix (now ∷ later) each = (
+  step prefix now later each.0,
+  subst (λ f. EachFrom P f (map bare later)) (map-append bare prefix (now ∷ []))
+      (each_bare P step (prefix ++ now ∷ []) later each.1),
 )
 
 -- the events of a slot
@@ -288,7 +288,7 @@ epoch_bare setup slots first before made told run =
           (run.counts_rise slot);
       bounds = subst (EachFrom (MeetsBounds setup before) []) (sym lines)
           (each_bare (MeetsBounds setup before)
-          (λ front now later. bounds_bare setup before front now.entry later) [] (told_in made told) run.bounds);
+          (λ prefix now later. bounds_bare setup before prefix now.entry later) [] (told_in made told) run.bounds);
       replies = λ slot. same_kept (reply_told slot) line_without_place (reply_bare slot) told.lines ∙ run.replies slot
           ∙ ap (made_of.replies slot (before slot)) (sym (events slot));
       verdicts = λ slot. same_kept (verdict_told slot) line_without_place (verdict_bare slot) told.lines
@@ -297,7 +297,7 @@ epoch_bare setup slots first before made told run =
           ∙ (λ i. by_slot slots (λ slot. made_of.effects slot (before slot) (sym (events slot) i)));
       rows = run.rows ∙ (λ i. by_slot slots (λ slot. made_of.rows slot (before slot) (sym (events slot) i)));
       refusals = subst (EachFrom (RefusedWhereFull setup) []) (sym lines)
-          (each_bare (RefusedWhereFull setup) (λ front now later. refused_full setup front now now.entry) []
+          (each_bare (RefusedWhereFull setup) (λ prefix now later. refused_full setup prefix now now.entry) []
           (told_in made told) run.refusals);
       parking = subst (EachFrom ParkedBehindMoves []) (sym lines) (all_unparked [] (told_in made told));
     }

@@ -44,8 +44,8 @@ OwnReportIsNeverRefuted = (under setup : Setup) (trace : List Text) (report : Re
 
 -- Octets that end with a newline are a whole trace, and this is the text of a lawful report of it.
 pub record IsOwnText (under : Setup) (octets text : List ℕ) : Type 0 where
-  pub front : List ℕ
-  pub whole : octets ≡ front ++ 10 ∷ []
+  pub prefix : List ℕ
+  pub whole : octets ≡ prefix ++ 10 ∷ []
   pub ends : (input_of octets).stop ≡ ended
   pub report : Report
   pub lawful : IsReport under (input_of octets) report

@@ -33,8 +33,8 @@ pub record EachIsLawful : Type 0 where
 -- A run over octets that end with a newline had status 0 and wrote this text without places, and an audit reads octets,
 -- the line between and that text whole.
 pub record IsOwnRun (may_have : Input → Report → Type 0) (octets text : List ℕ) : Type 0 where
-  pub front : List ℕ
-  pub whole : octets ≡ front ++ 10 ∷ []
+  pub prefix : List ℕ
+  pub whole : octets ≡ prefix ++ 10 ∷ []
   pub left : List ℕ
   pub wrote : Reports may_have false status.Ok (Unit {0}) octets left text
   pub read : (texts_of (audited_octets octets text)).stop ≡ ended

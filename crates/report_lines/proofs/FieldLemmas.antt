@@ -90,9 +90,6 @@ pub count_given : (texts : List (List ℕ)) (taken : ℕ × List (List ℕ)) →
     → Stands (one decimal) (λ n. n ≤ 2 ^ 61) texts taken
 count_given texts taken read = number_given (2 ^ 61) texts taken (lit< tt) read
 
-pub count_taken : (n : ℕ) (rest : List (List ℕ)) → n ≤ 2 ^ 61 → counted (decimal n ∷ rest) ≡ Some (n, rest)
-count_taken n rest fits = number_taken (2 ^ 61) n rest (omega arith) fits
-
 pub octet_given : (texts : List (List ℕ)) (taken : ℕ × List (List ℕ)) → number 255 texts ≡ Some taken
     → Stands (one decimal) (λ n. n ≤ 255) texts taken
 octet_given texts taken read = number_given 255 texts taken (lit< tt) read
@@ -100,9 +97,6 @@ octet_given texts taken read = number_given 255 texts taken (lit< tt) read
 pub slot_given : (texts : List (List ℕ)) (taken : ℕ × List (List ℕ)) → slot texts ≡ Some taken
     → Stands (one decimal) IsSlot texts taken
 slot_given texts taken read = number_given 65532 texts taken (lit< tt) read
-
-pub slot_taken : (n : ℕ) (rest : List (List ℕ)) → IsSlot n → slot (decimal n ∷ rest) ≡ Some (n, rest)
-slot_taken n rest fits = number_taken 65532 n rest (omega arith) fits
 
 -- addresses, octets and messages
 pub address_given : (texts : List (List ℕ)) (taken : ℕ × List (List ℕ)) → next address_of texts ≡ Some taken
@@ -385,7 +379,7 @@ place_fields_taken None false is kept = refl
 place_fields_taken (Some place) true is kept = ap (λ p. option_map (λ q. (Some q, true)) p) (place_taken place is)
 place_fields_taken (Some place) false is kept = ap (λ p. option_map (λ q. (Some q, false)) p) (place_taken place is)
 
--- the front of an answer and of a judgement
+-- the start of an answer and of a judgement
 abbrev pub head_fields : ℕ × ℕ × ℕ → List (List ℕ) → List (List ℕ)
 head_fields head behind = decimal head.0 ∷ decimal head.1 ∷ decimal head.2 ∷ behind
 

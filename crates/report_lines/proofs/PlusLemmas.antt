@@ -1,5 +1,5 @@
 -- Sums of counts.
-use Rattle.std.proofs.Common.{◌≡◌, ℕ, ◌+◌, ◌-◌, ◌^◌, ◌≤◌, min, sym, arith, add_assoc, zero-add, add-zero}
+use Rattle.std.proofs.Common.{◌≡◌, ℕ, ◌+◌, arith, add_assoc, zero-add, add-zero}
 use Rattle.report_lines.specs.Counts.{Counts, all_held, held, nothing, plus}
 
 pub plus-assoc : (a b c : Counts) → plus (plus a b) c ≡ plus a (plus b c)

@@ -221,8 +221,8 @@ apart first texts are = ap entry_of_fields (pieces-joined space first texts (wor
 is_other : (octet : ℕ) → octet ≢ 32 → (octet == 32) ≡ false
 is_other octet other = grind (arith, nat_tests)
 
-pieces_front : (first rest : List ℕ) → IsWord first → fields_of (first ++ 32 ∷ rest) ≡ first ∷ fields_of rest
-pieces_front first rest is =
+pieces_prefix : (first rest : List ℕ) → IsWord first → fields_of (first ++ 32 ∷ rest) ≡ first ∷ fields_of rest
+pieces_prefix first rest is =
     slice_split_at (λ octet. octet == 32) first 32 rest
     (λ k d inside. is_other (get_or first k d) (word_lacks first is k d inside)) refl
 
@@ -230,8 +230,8 @@ note_read : (told : Noted) → IsEntry (entry.Line (line.N told))
     → entry_of (joined (line_fields (line.N told))) ≡ Some (entry.Line (line.N told))
 note_read told is =
     let rest = fields_of told.note in
-    let cut = pieces_front (codes "N") (joined (decimal told.line ∷ told.note ∷ [])) (word_shown (codes "N") refl) in
-    let again = pieces_front (decimal told.line) told.note (number_shown told.line is.0) in
+    let cut = pieces_prefix (codes "N") (joined (decimal told.line ∷ told.note ∷ [])) (word_shown (codes "N") refl) in
+    let again = pieces_prefix (decimal told.line) told.note (number_shown told.line is.0) in
     let fields : fields_of (joined (line_fields (line.N told))) ≡ codes "N" ∷ decimal told.line ∷ rest =
     cut ∙ ap (λ t. codes "N" ∷ t) again in
     ap entry_of_fields fields

@@ -63,27 +63,27 @@ pub shown_by : (told : PacketTold) (places : Bool) (answer : Result (Unit {0}) A
     → mid ≡ old ++ joined (line_fields (line.P (without_place told))) → fields ≡ place_fields told.place told.parked
     → OnOk answer (new ≡ mid ++ behind fields) → OnOk answer (new ≡ old
     ++ joined (line_fields (line_shown places (line.P told))))
-shown_by told places (Ok done) old mid new fields is front same appended =
+shown_by told places (Ok done) old mid new fields is prefix same appended =
     let alone : List ℕ = joined (line_fields (line.P (without_place told))) in
-    appended ∙ ap (λ text. text ++ behind fields) front ∙ append_assoc old alone (behind fields)
+    appended ∙ ap (λ text. text ++ behind fields) prefix ∙ append_assoc old alone (behind fields)
     ∙ ap (λ f. old ++ (alone ++ behind f)) same ∙ ap (λ text. old ++ text) (sym (judged_shown told places is))
-shown_by told places (Err why) old mid new fields is front same appended = tt
+shown_by told places (Err why) old mid new fields is prefix same appended = tt
 
 pub alone_by : (told : PacketTold) (places : Bool) (old new : List ℕ) → places ≡ false
     → new ≡ old ++ joined (line_fields (line.P (without_place told)))
     → new ≡ old ++ joined (line_fields (line_shown places (line.P told)))
-alone_by told places old new is front = front ∙ ap (λ text. old ++ text) (sym (judged_alone told places is))
+alone_by told places old new is prefix = prefix ∙ ap (λ text. old ++ text) (sym (judged_alone told places is))
 
 -- what was appended behind a judgement without its place
 pub placed_by : (told : PacketTold) (answer : Result (Unit {0}) AllocError) (old mid new : List ℕ)
     → mid ≡ old ++ joined (line_fields (line.P (without_place told)))
     → OnOk answer (new ≡ mid ++ behind (place_fields told.place told.parked))
     → OnOk answer (new ≡ old ++ joined (line_fields (line.P told)))
-placed_by told answer old mid new front appended = shown_by told true answer old mid new _ refl front refl appended
+placed_by told answer old mid new prefix appended = shown_by told true answer old mid new _ refl prefix refl appended
 
 -- what is cut back to where it began
 pub cut_back : (answer : Result (Unit {0}) AllocError) (old mid new text : List ℕ) (start : ℕ)
     → start ≡ length old → mid ≡ old ++ text → OnErr answer (new ≡ take start mid) → OnErr answer (new ≡ old)
-cut_back (Ok done) old mid new text start is front back = tt
-cut_back (Err why) old mid new text start is front back =
-    back ∙ ap (take start) front ∙ ap (λ n. take n (old ++ text)) is ∙ take-append_seam old text
+cut_back (Ok done) old mid new text start is prefix back = tt
+cut_back (Err why) old mid new text start is prefix back =
+    back ∙ ap (take start) prefix ∙ ap (λ n. take n (old ++ text)) is ∙ take-append_seam old text

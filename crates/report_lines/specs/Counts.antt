@@ -2,17 +2,11 @@
 use Rattle.std.specs.Prelude.{ℕ, ◌+◌, ◌-◌, ◌/◌, ◌^◌, List, [], ◌∷◌, codes, length, min, if◌then◌else◌}
 use Rattle.std.specs.Str.{bytes_eq}
 use Rattle.text_fields.specs.Fields.{fields_of, pieces}
+use Rattle.report_lines.specs.declared.counts.EntryCounts.{EntryCounts}
 
 -- entries of each kind, and the octets of packets that went up, and down
-pub record Counts : Type 0 where
-  pub notes : ℕ
-  pub commands : ℕ
-  pub packets : ℕ
-  pub refusals : ℕ
-  pub records : ℕ
-  pub opens : ℕ
-  pub up : ℕ
-  pub down : ℕ
+abbrev pub Counts : Type 0
+Counts = EntryCounts
 
 abbrev pub nothing : Counts
 nothing = record { notes = 0; commands = 0; packets = 0; refusals = 0; records = 0; opens = 0; up = 0; down = 0 }

@@ -4,7 +4,6 @@ ghost use Rattle.text_fields.specs.Fields.{pieces_left};
 ghost use Rattle.report_lines.specs.Counts.{Counts, all_held, counts_of, down_octets, line_counts, nothing};
 ghost use Rattle.report_lines.specs.Counts.{packet_counts, plus, up_octets};
 
-use std::marker::Model;
 use text_fields::{cut, next_piece};
 
 // The octets of a G-PDU's header.
@@ -13,14 +12,14 @@ const TUNNEL_LEN: u64 = 8;
 /// Counts of entries, and of octets of packets. A count stays at 2^64 − 1.
 #[derive(Drop)]
 pub struct EntryCounts {
-    pub(crate) notes: u64,
-    pub(crate) commands: u64,
-    pub(crate) packets: u64,
-    pub(crate) refusals: u64,
-    pub(crate) records: u64,
-    pub(crate) opens: u64,
-    pub(crate) up: u64,
-    pub(crate) down: u64,
+    pub notes: u64,
+    pub commands: u64,
+    pub packets: u64,
+    pub refusals: u64,
+    pub records: u64,
+    pub opens: u64,
+    pub up: u64,
+    pub down: u64,
 }
 
 impl EntryCounts {
@@ -154,21 +153,4 @@ fn down_octets(verdict: Option<&[u8]>) -> u64
     } else {
         0
     }
-}
-
-impl Model for EntryCounts {
-    ghost use Rattle.report_lines.specs.Counts.{Counts};
-
-    ghost Value = { Counts };
-
-    ghost view = { λ counts. record {
-      notes = counts.notes;
-      commands = counts.commands;
-      packets = counts.packets;
-      refusals = counts.refusals;
-      records = counts.records;
-      opens = counts.opens;
-      up = counts.up;
-      down = counts.down;
-    } };
 }

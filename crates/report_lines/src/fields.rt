@@ -1,5 +1,5 @@
 //! The next field of a report's line, as a value. Each call gives what is left behind it.
-ghost use Rattle.std.specs.Prelude.{◌≡◌, ◌≤◌, ◌<◌, ◌^◌, Some, IfSome, IfOk};
+ghost use Rattle.std.specs.Prelude.{◌≤◌, ◌<◌, ◌^◌, Some, IfSome, IfOk};
 ghost use Rattle.text_fields.specs.Fields.{space, pieces_left};
 ghost use Rattle.text_fields.specs.Address.{address_of};
 ghost use Rattle.text_fields.specs.Hexadecimal.{lower_octets_of};

@@ -1,5 +1,5 @@
 //! An entry prints as its text, with its place. Takes no memory.
-ghost use Rattle.std.specs.Prelude.{◌≡◌, ◌∷◌, [], Some};
+ghost use Rattle.std.specs.Prelude.{◌∷◌, [], Some};
 ghost use Rattle.std.specs.Fmt.{WritesOnOk};
 ghost use Rattle.text_fields.specs.Fields.{behind, joined};
 ghost use Rattle.report_lines.specs.Text.{

@@ -1,5 +1,5 @@
 -- What lines leave may be saved as a file.
-use Rattle.std.proofs.Common.{◌≡◌, ℕ, zero, suc, ◌+◌, ◌<◌, ◌≤◌, ◌^◌, ◌==◌, Bool, true, false, if◌then◌else◌, Option, None, Some, List, [], ◌∷◌, All, length, fold, map, refl, sym, ap, ◌∙◌, subst, arith}
+use Rattle.std.proofs.Common.{◌≡◌, ℕ, zero, suc, ◌+◌, ◌<◌, ◌≤◌, ◌^◌, ◌==◌, Bool, true, false, if◌then◌else◌, Some, List, [], ◌∷◌, All, length, fold, map, refl, sym, ap, ◌∙◌, subst, arith}
 use Rattle.std.specs.Prelude.{slice_get}
 use Rattle.std.specs.List.{AllByRecursion}
 use Rattle.std.proofs.lemmas.List.Elements.{recursion_from_All}
@@ -14,10 +14,9 @@ use Rattle.demux.specs.declared.decision.Decision.TheVariants.{Command, Move, No
 use Rattle.demux.proofs.ResolvedLemmas.{is_decision}
 use Rattle.pc_base.specs.Imsi.{IsImsi}
 use Rattle.trace_lines.specs.Line.{IsLine, Line}
-use Rattle.record_codec.specs.Saved.{AreSaved, FileState, IsFile, IsResting, IsSaved, SavedSubscriber, all_saved, imsi_of, saved}
+use Rattle.record_codec.specs.Saved.{AreSaved, IsFile, IsResting, IsSaved, all_saved, imsi_of, saved}
 use Rattle.subscriber.specs.Standing.{SubscriberState}
 use Rattle.solo_command.specs.declared.solo.Solo.{Solo}
-use Rattle.solo_command.specs.Places.{HasAt}
 use Rattle.solo_command.specs.Standing.{SlotStands, Stands, story_of}
 use Rattle.save_command.specs.Known.{IsKnown}
 use Rattle.save_command.specs.Left.{HasTaken, histories}

@@ -1,15 +1,14 @@
 -- A subscriber that represents the events of its slot may be saved.
-use Rattle.std.proofs.Common.{◌≡◌, ℕ, ◌+◌, ◌*◌, ◌<◌, ◌≤◌, ◌^◌, ◌==◌, ◌&&◌, nat_le, Bool, true, false, cond, Option, None, Some, IfSome, IsTrue, List, [], ◌∷◌, length, drop, map, refl, sym, ap, ◌∙◌, subst, inl, inr, arith, append-nil}
-use Rattle.std.specs.Prelude.{unwrap_or, nat_lt}
+use Rattle.std.proofs.Common.{◌≡◌, ℕ, ◌+◌, ◌<◌, ◌≤◌, ◌^◌, ◌==◌, ◌&&◌, nat_le, Bool, true, false, cond, Option, None, Some, IfSome, List, [], ◌∷◌, length, drop, map, sym, ap, ◌∙◌, subst, inl, inr, arith, append-nil}
+use Rattle.std.specs.Prelude.{unwrap_or}
 use Rattle.std.specs.List.{AllByRecursion, list_all}
 use Rattle.std.proofs.lemmas.Bool.{and_parts, eqb-true, leb-true}
 use Rattle.std.proofs.lemmas.List.Elements.{recursion_from_All}
 use Rattle.std.proofs.lemmas.List.Prefix.{front_rest}
 use Rattle.rate_policer.specs.Buckets.{BucketState}
-use Rattle.rate_policer.specs.Conforming.{burst}
-use Rattle.charging_book.specs.Accounts.{Accounts, AreDistinct}
-use Rattle.charging_book.specs.Happenings.{Happening, moments_at, open_at, rows_of, lives_of}
-use Rattle.charging_book.specs.Parts.{ArePiecesOf, are_parts, counts_in, moments_in}
+use Rattle.charging_book.specs.Accounts.{AreDistinct}
+use Rattle.charging_book.specs.Happenings.{Happening, moments_at, open_at, lives_of}
+use Rattle.charging_book.specs.Parts.{are_parts, counts_in, moments_in}
 use Rattle.charging_book.specs.Pieces.{volume}
 use Rattle.charging_book.specs.Rows.{Charged, Counters, Moments}
 use Rattle.charging_book.specs.declared.records.Piece.{Piece}
@@ -19,8 +18,7 @@ use Rattle.bearer_state.specs.declared.version.ActiveBearer.{ActiveBearer}
 use Rattle.bearer_state.specs.Qos.{is_guaranteed}
 use Rattle.bearer_state.specs.Session.{SessionState}
 use Rattle.bearer_state.specs.Version.{IsActiveBearer, IsVersion, VersionState, actives, version_of}
-use Rattle.packet_steps.specs.Parts.{ArePartsOf, PartsState, buckets_fit, buckets_in, first_fit, fit, held_fit, may_fit, own_fit, pieces_fit, were_asked}
-use Rattle.packet_steps.specs.Past.{Past}
+use Rattle.packet_steps.specs.Parts.{PartsState, buckets_fit, first_fit, fit, held_fit, may_fit, own_fit, pieces_fit, were_asked}
 use Rattle.packet_steps.specs.Rows.{HeldRow}
 use Rattle.gate_model.specs.Events.{commands_of, packets_of}
 use Rattle.gate_model.specs.SlotPast.{past_of, records_after, session_after}
@@ -37,15 +35,16 @@ use Rattle.subscriber.proofs.FitLemmas.{parts_fit}
 use Rattle.subscriber.proofs.AlikeFits.{fitting_open}
 use Rattle.subscriber.proofs.PieceLemmas.{lives_are}
 use Rattle.pc_base.specs.Imsi.{IsImsi}
-use Rattle.lawful_run.specs.Ranges.{EventAsksOnce, EventIn, HappeningIn, HeldIn, IsShortAnswer, OpenIn, PastIn}
+use Rattle.lawful_run.specs.Ranges.{HappeningIn, HeldIn, IsShortAnswer, OpenIn, PastIn}
 use Rattle.lawful_run.proofs.Answers.{answers_short}
 use Rattle.lawful_run.proofs.ChargesIn.{open_piece_in}
 use Rattle.lawful_run.proofs.HeldCame.{held_came}
 use Rattle.lawful_run.proofs.PastsIn.{lead_in}
-use Rattle.record_codec.specs.Saved.{AreSavedParts, IsAnswer, IsBucket, IsHeld, IsOwnBearer, IsPiece, IsResting, IsSaved, IsSavedSession, by_index, parts_of, pieces_of, saved}
-use Rattle.record_codec.proofs.PieceLemmas.{parts_are, pieces_are}
-use Rattle.save_command.specs.Known.{HasParts, IsKind, IsKnown, IsLevel}
+use Rattle.record_codec.specs.Saved.{AreSavedParts, IsAnswer, IsBucket, IsHeld, IsOwnBearer, IsPiece, IsResting, IsSaved, by_index, parts_of, saved}
+use Rattle.record_codec.proofs.PieceLemmas.{parts_are}
+use Rattle.save_command.specs.Known.{IsKind, IsKnown}
 use Rattle.solo_command.proofs.Indexed.{HasOne, each_indexed, fits_indexed, indexed_for, one_for}
+use Rattle.save_command.proofs.PartsMade.{HasParts, IsLevel, has_parts}
 use Rattle.save_command.proofs.LineEvents.{AreEvents, NumberBelow, numbers_below}
 
 -- the kept answer
@@ -215,11 +214,12 @@ parts_kept : (moment slot : ℕ) (one : SubscriberState) (events : List Event) �
     → IsKnown one
     → AreSavedParts one.packets moment (actives one.session.bearers) (parts_of one.version.bearers one.counters)
 parts_kept moment slot one events left known =
-    let has = known.parts in
+    let stands = left.stands in
+    let has : HasParts one.version one.counters =
+    has_parts slot one events (length (records_after slot events)) stands known.ordered in
     let parts : PartsState = has.parts in
     let bearers = one.version.bearers in
     let past = (past_of slot events).packets in
-    let stands = left.stands in
     let led : PastIn (past_of slot events) = lead_in slot events left.few left.are.in_range in
     let ranges : IsVersion one.version = subst IsVersion (sym stands.version) stands.counters.ranges in
     let tests : Tests one.version parts = tests_of one.version parts
@@ -243,7 +243,7 @@ parts_kept moment slot one events left known =
     last_by parts.last moment (subst (λ (o : Option ℕ). IfSome o (λ at. at ≤ moment)) (sym has.are.last) left.late) in
     let buckets : AllByRecursion IsBucket parts.buckets =
     buckets_are (unwrap_or parts.last 0) parts.buckets (omega (arith, last, left.early))
-    (recursion_from_All IsLevel parts.buckets has.levels) (version_low one.version parts.buckets ranges tests.buckets)
+    has.levels (version_low one.version parts.buckets ranges tests.buckets)
     (asked_by (unwrap_or parts.last 0) parts.buckets tests.asked) in
     let held : AllByRecursion (IsHeld one.packets) past.held =
     held_are slot events one.packets led
@@ -281,7 +281,7 @@ saved_is moment slot imsi one events imsi_is left known =
     let ranges : IsVersion one.version = subst IsVersion (sym stands.version) stands.counters.ranges in
     let version : one.version ≡ version_of one.session one.version.number =
     version_is slot one events taken stands in
-    let has = known.parts in
+    let has : HasParts one.version one.counters = has_parts slot one events taken stands known.ordered in
     let same : parts_of one.version.bearers one.counters
     ≡ record has.parts { pieces = by_index one.version.bearers has.parts.pieces } =
     parts_are one.version one.counters has.parts has.are in
@@ -313,7 +313,7 @@ pub rests : (moment slot : ℕ) (one : SubscriberState) (events : List Event) �
 rests moment slot one events left known =
     let stands = left.stands in
     let taken : ℕ = length (records_after slot events) in
-    let has = known.parts in
+    let has : HasParts one.version one.counters = has_parts slot one events taken stands known.ordered in
     let tests : Tests one.version has.parts = tests_of one.version has.parts
     (fits_so slot one events taken has stands) in
     let rows : List Charged = records_after slot events in

@@ -1,4 +1,5 @@
 pub mod LineEvents
+pub mod PartsMade
 pub mod Kept
 pub mod FileLemmas
 pub mod TakenLemmas

@@ -14,7 +14,7 @@ use Rattle.gate_model.specs.declared.event.Event.{Event}
 use Rattle.gate_model.specs.declared.event.Event.TheVariants as event
 use Rattle.lawful_run.specs.AnsweredRun.{events_after, with_line}
 use Rattle.lawful_run.specs.Trace.{meant_from, meant_next, settled_by}
-use Rattle.lawful_run.specs.Ranges.{EventAsksOnce, EventIn, MeaningAsksOnce, PacketIn}
+use Rattle.lawful_run.specs.Ranges.{EventAsksOnce, EventIn, MeaningAsksOnce}
 use Rattle.lawful_run.proofs.AsksOnce.{lines_ask_once}
 use Rattle.subscriber.proofs.CountLemmas.{all_counted}
 use Rattle.trace_lines.specs.Line.{IsLine, Line}

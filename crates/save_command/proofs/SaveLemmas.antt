@@ -1,18 +1,18 @@
 -- What a run of `save` wrote, by its status.
-use Rattle.std.proofs.Common.{◌≡◌, ℕ, inl, inr, ◌<◌, ◌≤◌, ◌^◌, All, List, [], ◌++◌, ◌+◌, length, Option, None, Some, refl, sym, ap, ◌∙◌, subst, append-nil}
+use Rattle.std.proofs.Common.{◌≡◌, ℕ, inl, inr, ◌<◌, All, List, [], ◌++◌, ◌+◌, length, Option, None, Some, refl, sym, ap, ◌∙◌, subst}
 use Rattle.std.specs.Io.KnownBytes.{Appends}
 use Rattle.std.proofs.KnownBytes.{Appends-nil}
-use Rattle.pc_outside.specs.Fronts.{AppendsPrefix}
+use Rattle.pc_outside.specs.Prefixes.{AppendsPrefix}
 use Rattle.pc_outside.specs.WhereTold.{WhereTold}
 use Rattle.pc_outside.proofs.ToldLemmas.{told_map}
-use Rattle.trace_lines.specs.Input.{Input, Stop, bad, big, ended, input_of, long}
+use Rattle.trace_lines.specs.Input.{Input, bad, big, ended, input_of, long}
 use Rattle.trace_lines.specs.Line.{Line}
 use Rattle.record_codec.specs.Saved.{FileState}
 use Rattle.record_codec.specs.Spelling.{state}
 use Rattle.solo_command.specs.Left.{IsLeft}
 use Rattle.record_codec.specs.StateText.{IsStateText}
 use Rattle.trace_run.specs.Beginnings.{whole_input}
-use Rattle.trace_run.specs.Lines.{Begins, Reached, Stops}
+use Rattle.trace_run.specs.Lines.{Begins, Reached}
 use Rattle.trace_run.specs.Report.{IsBad, IsDone, IsLong}
 use Rattle.trace_run.specs.Status.{status_at, status_without}
 use Rattle.trace_run.specs.Takers.{LinesCut}
@@ -47,17 +47,14 @@ wrote_all lines file text old new left octets written moved = record {
   said = saved_text_is lines file text left octets written;
 }
 
-pub wrote_front : (lines : List Line) (file : FileState) (text : List ℕ) (old new : Option (List ℕ))
+pub wrote_prefix : (lines : List Line) (file : FileState) (text : List ℕ) (old new : Option (List ℕ))
     → IsLeft slices lines file → All (λ octet. octet < 256) (state file) → IsStateText (state file) text
     → AppendsPrefix old new text → Wrote status.WriteFault lines old new
-wrote_front lines file text old new left octets written cut = record {
-  text = cut.front;
+wrote_prefix lines file text old new left octets written cut = record {
+  text = cut.prefix;
   written = cut.appended;
   said = (cut.rest, subst (IsSavedText lines) cut.parts (saved_text_is lines file text left octets written));
 }
-
-pub wrote_nothing : (lines : List Line) (sink : Option (List ℕ)) → Wrote status.NoMemory lines sink sink
-wrote_nothing lines sink = record { text = []; written = Appends-nil sink; said = refl }
 
 -- lines that were read whole
 saves_lines : (ending : Status) (octets left text : List ℕ) (lines : List Line) → Reached Ended octets left lines

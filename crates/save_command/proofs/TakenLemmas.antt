@@ -1,10 +1,8 @@
 -- What was taken of lines, one line more.
-use Rattle.std.proofs.Common.{◌≡◌, ℕ, ◌+◌, ◌≤◌, List, [], ◌∷◌, ◌++◌, length, length-append, refl, sym, ap, ◌∙◌, subst, arith}
+use Rattle.std.proofs.Common.{◌≡◌, ℕ, ◌+◌, List, [], ◌∷◌, ◌++◌, length, length-append, refl, sym, ap, ◌∙◌, subst, arith}
 use Rattle.std.specs.Prelude.{Ok}
-use Rattle.std.specs.List.{AllByRecursion}
 use Rattle.trace_lines.specs.Line.{IsLine, Line}
 use Rattle.demux.specs.Resolved.{decided}
-use Rattle.demux.specs.Trace.{Meaning}
 use Rattle.demux.proofs.MomentLemmas.{moment_if_ok}
 use Rattle.demux.proofs.Small.{each_append}
 use Rattle.lawful_run.specs.AnsweredRun.{behind_lines, events_after}
@@ -15,7 +13,7 @@ use Rattle.lawful_run.proofs.CutEpochs.{meant_from-append}
 use Rattle.lawful_run.proofs.Growing.{events_after-push}
 use Rattle.at_rest.proofs.Coming.{latest-push}
 use Rattle.trace_run.specs.Takers.{IsNextOf}
-use Rattle.solo_command.specs.Gateway.{AnswersLine, AnswersLines, Gateway, Told, no_subscribers}
+use Rattle.solo_command.specs.Gateway.{AnswersLines, no_subscribers}
 use Rattle.solo_command.proofs.AnswerLemmas.{line_then}
 use Rattle.solo_command.specs.Holding.{Holds, Tells, gateway_of}
 use Rattle.solo_command.specs.Report.{slices}

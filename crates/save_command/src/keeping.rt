@@ -1,5 +1,5 @@
 //! What a trace leaves, as a state file.
-ghost use Rattle.std.specs.Prelude.{◌≤◌, ◌^◌, ℕ, List, IfOk, length};
+ghost use Rattle.std.specs.Prelude.{◌≤◌, ◌^◌, ℕ, List, length};
 ghost use Rattle.trace_lines.specs.Line.{Line};
 ghost use Rattle.solo_command.specs.Left.{IsLeft};
 ghost use Rattle.solo_command.specs.Report.{slices};
@@ -9,13 +9,12 @@ use crate::known::{known_imsis, known_subscribers};
 use crate::saver::Saver;
 use record_codec::StateFile;
 use solo_command::Solo;
-use std::alloc::AllocError;
 
 /// The state file of the subscribers at rest behind a trace.
-pub(crate) fn file_of(saver: Saver) -> Result<StateFile, AllocError>
+pub(crate) fn file_of(saver: Saver) -> StateFile
     requires { (done : List Line) × (latest : ℕ) × HasTaken saver done latest × (length done ≤ 2 ^ 39) }
     ensures { (done : List Line) (latest : ℕ) → HasTaken saver done latest → length done ≤ 2 ^ 39
-        → IfOk result (λ file. IsLeft slices done file) }
+        → IsLeft slices done result }
 {
     let Saver {
         solo,
@@ -28,13 +27,12 @@ pub(crate) fn file_of(saver: Saver) -> Result<StateFile, AllocError>
         subscribers,
         ..
     } = solo;
-    let _count = book.len();
     known_imsis(book.imsis());
-    known_subscribers(&subscribers)?;
-    Ok(StateFile {
+    known_subscribers(&subscribers);
+    StateFile {
         lines,
         moment: latest,
         book,
         subscribers,
-    })
+    }
 }

@@ -1,13 +1,11 @@
 //! What a subscriber and a book keep by their types.
-ghost use Rattle.std.specs.Prelude.{All, IfSome, OnOk};
+ghost use Rattle.std.specs.Prelude.{All, IfSome};
 ghost use Rattle.pc_base.specs.Imsi.{IsImsi};
 ghost use Rattle.record_codec.specs.Saved.{IsOwnBearer, IsPeer};
-ghost use Rattle.save_command.specs.Known.{HasNumbers, IsKind, IsKnown, IsLevel};
+ghost use Rattle.save_command.specs.Known.{HasNumbers, IsKind, IsKnown};
 
 use bearer_state::{Bearer, Kept, Session};
 use pc_base::{Imsi, Peer};
-use rate_policer::Bucket;
-use std::alloc::AllocError;
 use subscriber::Subscriber;
 
 /// Each IMSI of a book has 6 to 15 digits.
@@ -19,34 +17,23 @@ pub(crate) fn known_imsis(imsis: &[Imsi])
     }
 }
 
-/// What each subscriber keeps. Its parts take memory, which is given back.
-pub(crate) fn known_subscribers(subscribers: &[Subscriber]) -> Result<(), AllocError>
-    ensures { OnOk result (All IsKnown subscribers.now) }
+/// What each subscriber keeps.
+pub(crate) fn known_subscribers(subscribers: &[Subscriber])
+    ensures { All IsKnown subscribers.now }
 {
     for subscriber in subscribers {
-        known(subscriber)?;
+        known(subscriber);
     }
-    Ok(())
 }
 
-fn known(subscriber: &Subscriber) -> Result<(), AllocError>
-    ensures { OnOk result (IsKnown subscriber.now) }
+fn known(subscriber: &Subscriber)
+    ensures { IsKnown subscriber.now }
 {
     let session = &subscriber.session;
     session.known();
     known_numbers(session);
     known_bearers(session.bearers.as_slice());
-    let parts = subscriber.counters.parts(&subscriber.version)?;
-    known_levels(&parts.buckets);
-    Ok(())
-}
-
-fn known_levels(buckets: &[Bucket])
-    ensures { All IsLevel buckets.now }
-{
-    for bucket in buckets {
-        let _level = bucket.level();
-    }
+    subscriber.counters.known();
 }
 
 fn known_bearers(bearers: &[Bearer])

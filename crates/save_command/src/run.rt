@@ -43,9 +43,7 @@ fn write_file<K: Sink>(alloc: Global, saver: Saver, sink: &mut K) -> Status
     ensures later { K.faults sink.old ≤ K.faults sink.new }
     ensures fault { result ≡ Status.WriteFault → Rises (K.faults sink.old) (K.faults sink.new) }
 {
-    let Ok(file) = file_of(saver) else {
-        return Status::NoMemory;
-    };
+    let file = file_of(saver);
     let Ok(text) = saved_text(alloc, &file) else {
         return Status::NoMemory;
     };

@@ -1,6 +1,6 @@
 //! The subscribers of a trace, line by line.
 ghost use Rattle.std.specs.Prelude.{◌≡◌, ℕ, ◌∷◌, ◌++◌, [], List, OnOk};
-ghost use Rattle.trace_lines.specs.Line.{IsLine, Line};
+ghost use Rattle.trace_lines.specs.Line.{Line};
 ghost use Rattle.trace_run.specs.Takers.{IsNextOf};
 ghost use Rattle.save_command.specs.Left.{HasTaken};
 
@@ -44,21 +44,13 @@ impl Saver {
             → OnOk result (HasTaken self.new (done ++ line.now ∷ []) line.now.moment) }
         ensures emptied { OnOk result (self.new.told ≡ []) }
     {
-        known(line);
+        self.lines = line.number;
+        self.latest = line.moment;
         self.solo.enter(line, &mut self.told)?;
         self.solo.end_epoch(&mut self.told)?;
         self.told.clear();
-        self.lines = line.number;
-        self.latest = line.moment;
         Ok(())
     }
-}
-
-/// The ranges that every line keeps.
-fn known(line: &TraceLine)
-    ensures { IsLine line.now }
-{
-    let _moment = line.moment;
 }
 
 impl LineTaker for Saver {
@@ -73,7 +65,7 @@ impl LineTaker for Saver {
 
     fn take<K: Sink>(
         &mut self,
-        line: &TraceLine,
+        line: &mut TraceLine,
         len: usize,
         sink: &mut K,
     ) -> Result<(), Unwritten> {

@@ -10,7 +10,7 @@ use Rattle.front_core.specs.declared.took.Took.{Took}
 use Rattle.front_core.specs.Counting.{TookTries}
 use Rattle.front_core.specs.Entries.{lines_of}
 use Rattle.front_core.specs.Words.{IsWhole, opened_of, entries_in, taken_by, lines_in, latest_in, fulls_in}
-use Rattle.front_core.specs.Words.{control_lanes, data_lanes, TakesLine}
+use Rattle.front_core.specs.Words.{control_lanes, data_lanes, TakesAtOnce}
 use Rattle.slice_core.specs.Lines.{Counted, Pumps, TakesAll, fulls_among, in_among}
 use Rattle.slice_core.proofs.Rising.{counted_none, fulls_rise}
 
@@ -32,7 +32,7 @@ takes_none tries front whole = record {
 pub takes_more : (tries : ℕ) (xs : List Line) (line : Line) (old mid new : Front) (took : Took)
     → TakesAll tries xs old mid → IsWhole new → opened_of new ≡ opened_of mid
     → taken_by new ≡ taken_by mid ++ line ∷ [] → (lines_in new ≡ lines_in mid + 1) × (latest_in new ≡ line.moment)
-    → (control_lanes new ≡ control_lanes mid) × (data_lanes new ≡ data_lanes mid) → TakesLine line tries took mid new
+    → (control_lanes new ≡ control_lanes mid) × (data_lanes new ≡ data_lanes mid) → TakesAtOnce line tries took mid new
     → TookTries tries took (fulls_in mid) (fulls_in new) → TakesAll tries (xs ++ line ∷ []) old new
 takes_more tries xs line old mid new took before whole opened taken counts lanes takes tried = record {
   whole = whole;

@@ -11,8 +11,8 @@ ghost use Rattle.front_core.specs.Placed.{IsEntryBelow};
 ghost use Rattle.slice_core.specs.Lines.{Counted, is_answered};
 ghost use Rattle.slice_core.specs.Serving.{AreServed, Serves};
 
-use crate::served::{Pace, Places, Posts, ServedEpoch, serve};
-use crate::{Gate, NoMemory};
+use crate::served::{Places, Posts, ServedEpoch, serve};
+use crate::{Gate, NoMemory, Pace};
 use at_rest::AtRest;
 use front_core::{Ended, Front, close};
 use std::alloc::Global;
@@ -25,15 +25,14 @@ use trace_lines::TraceLine;
 /// workers find nothing more to do, at most as often as `linger` says, before they are stopped. Workers whose thread
 /// can't be started, or runs out of memory, stop early, and what they left is done when the epoch is closed. Out of
 /// memory at the front the gateway is given up.
-pub fn run_epoch<G: Gate, R: Threads + Wait + Sync>(
-    rt: &R,
+pub fn run_epoch<'p, G: Gate, R: Threads + Wait + Sync>(
+    rt: &'p R,
     alloc: Global,
     rest: AtRest,
-    lines: &[TraceLine],
-    patience: u32,
-    linger: u32,
-    gate: &G,
-) -> Result<Ended, NoMemory>
+    lines: &'p [TraceLine],
+    pace: Pace,
+    gate: &'p G,
+) -> Result<Ended<'p>, NoMemory>
     requires behind { (prior : List Line) × IsBehind rest prior }
     requires represents { (before : Histories) × RepresentsAll rest before }
     requires few { rest.lines + length lines.now ≤ 2 ^ 39 }
@@ -47,8 +46,9 @@ pub fn run_epoch<G: Gate, R: Threads + Wait + Sync>(
 
     // Each refusal is as many tries that were answered Full as `patience` says, and one; a command or packet that was
     // accepted had at most as many of them as `patience` says. Of nothing else is the count of full answers.
-    ensures refusals { IfOk result (λ ended. Counted (patience + 1) (count_by is_refused (told_by ended.epoch).lines)
-        (count_by is_answered (told_by ended.epoch).lines) rest.fulls ended.rest.fulls) }
+    ensures refusals { IfOk result (λ ended. Counted (pace.patience + 1)
+        (count_by is_refused (told_by ended.epoch).lines) (count_by is_answered (told_by ended.epoch).lines)
+        rest.fulls ended.rest.fulls) }
 
     // Each packet was handled at one of the slices, or as the epoch was closed.
     ensures placed { IfOk result (λ ended. All (IsEntryBelow rest.slices) (told_by ended.epoch).lines) }
@@ -57,14 +57,13 @@ pub fn run_epoch<G: Gate, R: Threads + Wait + Sync>(
     let slices = opened.controls.len();
     let places = Places::new(alloc, slices)?;
     let posts = Posts::new(alloc, slices)?;
-    let pace = Pace { patience, linger };
     let shared = &posts;
     let served = thread::scope(
         thread::scope_env(),
         rt,
-        |scope| -> ServedEpoch
+        |scope| -> ServedEpoch<'_>
             requires { AreServed opened places shared.now lines.now }
-            ensures { Serves opened (pace.patience + 1) lines.entry.now result }
+            ensures { Serves opened.entry (pace.patience + 1) lines.entry.now result }
         { serve(scope, rt, alloc, opened, places, shared, lines, pace, gate) },
     );
     close(rt, served.front?, served.controls, served.datas)

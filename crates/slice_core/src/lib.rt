@@ -7,15 +7,18 @@ mod calls;
 mod epoch;
 mod gate;
 mod lines;
+mod pace;
 mod promises;
 mod rounds;
 mod served;
 mod serving;
 mod threads;
+mod waking;
 
 pub use calls::Calls;
 pub use epoch::run_epoch;
 pub use gate::{Gate, OpenGate};
+pub use pace::Pace;
 pub use promises::{SliceEnded, SliceOf};
 pub use serving::{ControlWorker, SliceEnds, SliceWorkers, serve_slice};
 pub use std::alloc::AllocError as NoMemory;

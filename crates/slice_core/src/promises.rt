@@ -8,16 +8,16 @@ use std::thread::Promise;
 
 /// The promise of a thread with the workers of a slice: its ends have the seats of these.
 #[derive(Drop)]
-pub struct SliceOf(pub Snapshot<SliceWorkers>);
+pub struct SliceOf<'p>(pub Snapshot<SliceWorkers<'p>>);
 
-impl Promise<SliceEnds> for SliceOf {
+impl<'p> Promise<SliceEnds<'p>> for SliceOf<'p> {
     ghost kept_by = { λ promise ends. ends_seats ends ≡ workers_seats promise.0.value };
 }
 
 /// The ends of workers that no thread served.
 #[derive(Drop)]
-pub struct SliceEnded {
-    pub ends: SliceEnds,
-    pub workers: Snapshot<SliceWorkers>,
+pub struct SliceEnded<'p> {
+    pub ends: SliceEnds<'p>,
+    pub workers: Snapshot<SliceWorkers<'p>>,
     pub ghost kept: { ends_seats ends ≡ workers_seats workers.value },
 }

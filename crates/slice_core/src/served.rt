@@ -1,5 +1,5 @@
 //! The threads of an epoch.
-ghost use Rattle.std.specs.Prelude.{◌≡◌, ◌+◌, ◌≤◌, ◌^◌, length, IfOk};
+ghost use Rattle.std.specs.Prelude.{◌+◌, ◌≤◌, ◌^◌, length, IfOk};
 ghost use Rattle.front_core.specs.Words.{IsWhole, latest_in, lines_in};
 ghost use Rattle.at_rest.specs.Coming.{AreLater};
 ghost use Rattle.slice_core.specs.Lines.{TakesAll};
@@ -7,7 +7,7 @@ ghost use Rattle.slice_core.specs.Serving.{AreFor, AreServed, HasRoomFor, Serves
 
 use crate::calls::calls_of;
 use crate::lines::{linger_on, take_lines};
-use crate::{Calls, Ends, Gate, NoMemory, SliceThread, join_slices, start_slices};
+use crate::{Calls, Ends, Gate, NoMemory, Pace, SliceThread, join_slices, start_slices};
 use control_half::ControlHalf;
 use counter_half::DataHalf;
 use front_core::{Front, Opened};
@@ -19,9 +19,9 @@ use worker_core::{DataEnd, Post, WorkerEnd, posts_of, stop_all};
 
 /// What the threads of slices take memory for, before the first is started.
 #[derive(Drop)]
-pub(crate) struct Places {
-    pub(crate) threads: Vec<SliceThread>,
-    pub(crate) ends: Ends,
+pub(crate) struct Places<'p> {
+    pub(crate) threads: Vec<SliceThread<'p>>,
+    pub(crate) ends: Ends<'p>,
 }
 
 /// The post and the calls of each slice.
@@ -33,21 +33,14 @@ pub(crate) struct Posts {
 
 /// The front behind the lines, if it had memory for them, and the ends of its workers.
 #[derive(Drop)]
-pub(crate) struct ServedEpoch {
-    pub(crate) front: Result<Front, NoMemory>,
+pub(crate) struct ServedEpoch<'p> {
+    pub(crate) front: Result<Front<'p>, NoMemory>,
     pub(crate) controls: Vec<WorkerEnd<ControlHalf>>,
-    pub(crate) datas: Vec<DataEnd<DataHalf>>,
+    pub(crate) datas: Vec<DataEnd<DataHalf<'p>>>,
 }
 
-/// How often a line that was refused is tried again, and how often the front pumps behind the last line.
-#[derive(Clone, Copy)]
-pub(crate) struct Pace {
-    pub(crate) patience: u32,
-    pub(crate) linger: u32,
-}
-
-impl Places {
-    pub(crate) fn new(alloc: Global, slices: usize) -> Result<Places, NoMemory>
+impl<'p> Places<'p> {
+    pub(crate) fn new(alloc: Global, slices: usize) -> Result<Places<'p>, NoMemory>
         ensures { IfOk result (λ places. HasRoomFor slices places) }
     {
         Ok(Places {
@@ -73,19 +66,21 @@ impl Posts {
 
 /// Starts the threads, takes the lines, lingers, tells the threads to stop and waits for the ends. They are told
 /// whatever became of the lines, since a thread that isn't told never ends.
-pub(crate) fn serve<'s, E, G: Gate, R: Threads + Wait + Sync>(
+pub(crate) fn serve<'p, 's, E, G: Gate, R: Threads + Wait + Sync>(
     scope: &Scope<'s, E>,
     rt: &'s R,
     alloc: Global,
-    opened: Opened,
-    places: Places,
+    opened: Opened<'p>,
+    places: Places<'p>,
     posts: &'s Posts,
-    lines: &[TraceLine],
+    lines: &'p [TraceLine],
     pace: Pace,
     gate: &'s G,
-) -> ServedEpoch
+) -> ServedEpoch<'p>
+where
+    'p: 's,
     requires { AreServed opened places posts.now lines.now }
-    ensures { Serves opened (pace.patience + 1) lines.now result }
+    ensures { Serves opened.entry (pace.patience + 1) lines.now result }
 {
     let slice_posts = posts.slices.as_slice();
     let threads = start_slices(
@@ -110,17 +105,17 @@ pub(crate) fn serve<'s, E, G: Gate, R: Threads + Wait + Sync>(
 }
 
 // What the front does meanwhile.
-fn front_work<R: Wait>(
+fn front_work<'p, R: Wait>(
     rt: &R,
-    front: Front,
-    lines: &[TraceLine],
+    front: Front<'p>,
+    lines: &'p [TraceLine],
     posts: &Posts,
     pace: Pace,
-) -> Result<Front, NoMemory>
+) -> Result<Front<'p>, NoMemory>
     requires whole { IsWhole front }
     requires few { lines_in front + length lines.now ≤ 2 ^ 39 }
     requires later { AreLater (latest_in front) lines.now }
-    ensures { IfOk result (λ now. TakesAll (pace.patience + 1) lines.now front now) }
+    ensures { IfOk result (λ now. TakesAll (pace.patience + 1) lines.now front.entry now) }
 {
     let mut front = take_lines(rt, front, lines, pace.patience, posts)?;
     linger_on(rt, &mut front, posts, pace.linger);

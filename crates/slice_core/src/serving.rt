@@ -20,16 +20,16 @@ pub type ControlWorker = Worker<ControlHalf>;
 
 /// The workers of a slice.
 #[derive(Drop)]
-pub struct SliceWorkers {
+pub struct SliceWorkers<'p> {
     pub control: ControlWorker,
-    pub data_half: DataWorker<DataHalf>,
+    pub data_half: DataWorker<DataHalf<'p>>,
 }
 
 /// Their ends.
 #[derive(Drop)]
-pub struct SliceEnds {
+pub struct SliceEnds<'p> {
     pub control: WorkerEnd<ControlHalf>,
-    pub data_half: DataEnd<DataHalf>,
+    pub data_half: DataEnd<DataHalf<'p>>,
 }
 
 fn serve_both<H: Traveller, F: DataTraveller, R: Wait>(
@@ -79,15 +79,15 @@ fn serve_both<H: Traveller, F: DataTraveller, R: Wait>(
 ///
 /// No clause speaks of calls, or of sleep: calls say which halves to turn first, all are turned where one is missed,
 /// and what no thread did is done as the epoch is closed.
-pub fn serve_slice<G: Gate, R: Wait>(
+pub fn serve_slice<'p, G: Gate, R: Wait>(
     rt: &R,
     alloc: Global,
-    workers: SliceWorkers,
+    workers: SliceWorkers<'p>,
     post: &Post,
     calls: &Calls,
     gate: &G,
-) -> SliceEnds
-    ensures { ends_seats result ≡ workers_seats workers }
+) -> SliceEnds<'p>
+    ensures { ends_seats result ≡ workers_seats workers.entry }
 {
     gate.meet(workers.data_half.place());
     let SliceWorkers { control, data_half } = workers;

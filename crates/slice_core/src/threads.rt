@@ -18,31 +18,33 @@ use worker_core::{DataEnd, DataWorker, Post, WorkerEnd};
 
 /// A slice whose workers were given to a thread; or their ends, where none could be started.
 #[derive(Drop)]
-pub enum SliceThread {
-    Running(PromisedHandle<SliceEnds, SliceOf>),
-    Refused(SliceEnded),
+pub enum SliceThread<'p> {
+    Running(PromisedHandle<SliceEnds<'p>, SliceOf<'p>>),
+    Refused(SliceEnded<'p>),
 }
 
 /// The ends of the workers of each kind, in the order of slices.
 #[derive(Drop)]
-pub struct Ends {
+pub struct Ends<'p> {
     pub controls: Vec<WorkerEnd<ControlHalf>>,
-    pub datas: Vec<DataEnd<DataHalf>>,
+    pub datas: Vec<DataEnd<DataHalf<'p>>>,
 }
 
-impl SliceThread {
+impl<'p> SliceThread<'p> {
     // Gives the workers to a thread. Where none can be started its post says stop, so their ends come behind the gate,
     // without a turn.
     fn start<'s, E, G: Gate, R: Wait + Sync>(
         scope: &Scope<'s, E>,
         rt: &'s R,
         alloc: Global,
-        workers: SliceWorkers,
+        workers: SliceWorkers<'p>,
         post: &'s Post,
         calls: &'s Calls,
         gate: &'s G,
-    ) -> SliceThread
-        ensures { seats_in result ≡ workers_seats workers }
+    ) -> SliceThread<'p>
+    where
+        'p: 's,
+        ensures { seats_in result ≡ workers_seats workers.entry }
     {
         let same = Snapshot::of(&workers);
         let promise = SliceOf(Snapshot::of(&workers));
@@ -61,8 +63,8 @@ impl SliceThread {
     }
 
     // Waits for the ends.
-    fn join<R: Threads>(self, rt: &R) -> SliceEnds
-        ensures { ends_seats result ≡ seats_in self }
+    fn join<R: Threads>(self, rt: &R) -> SliceEnds<'p>
+        ensures { ends_seats result ≡ seats_in self.entry }
     {
         match self {
             SliceThread::Running(handle) => handle.join(rt),
@@ -73,17 +75,19 @@ impl SliceThread {
 
 /// Gives the workers of each slice to a thread, with the post and the calls at its index. Memory for the threads is
 /// handed in, empty.
-pub fn start_slices<'s, E, G: Gate, R: Wait + Sync>(
+pub fn start_slices<'p, 's, E, G: Gate, R: Wait + Sync>(
     scope: &Scope<'s, E>,
     rt: &'s R,
     alloc: Global,
     controls: Vec<ControlWorker>,
-    datas: Vec<DataWorker<DataHalf>>,
+    datas: Vec<DataWorker<DataHalf<'p>>>,
     posts: &'s [Post],
     calls: &'s [Calls],
     gate: &'s G,
-    mut threads: Vec<SliceThread>,
-) -> Vec<SliceThread>
+    mut threads: Vec<SliceThread<'p>>,
+) -> Vec<SliceThread<'p>>
+where
+    'p: 's,
     requires pairs { vec_len datas ≡ vec_len controls }
     requires posts { vec_len controls ≤ length posts.now }
     requires calls { vec_len controls ≤ length calls.now }
@@ -91,7 +95,7 @@ pub fn start_slices<'s, E, G: Gate, R: Wait + Sync>(
     requires empty { threads.items ≡ [] }
 
     ensures controls { map control_in result.items ≡ map control_seat controls.items }
-    ensures datas { map data_in result.items ≡ map data_seat datas.items }
+    ensures datas { map data_in result.items ≡ map data_seat datas.entry.items }
 {
     let mut rest = datas.into_iter();
     for control in controls {
@@ -106,12 +110,16 @@ pub fn start_slices<'s, E, G: Gate, R: Wait + Sync>(
 }
 
 /// Waits for the ends of each slice; all threads are to be told to stop before. Memory for ends is handed in, empty.
-pub fn join_slices<R: Threads>(rt: &R, threads: Vec<SliceThread>, mut ends: Ends) -> Ends
+pub fn join_slices<'p, R: Threads>(
+    rt: &R,
+    threads: Vec<SliceThread<'p>>,
+    mut ends: Ends<'p>,
+) -> Ends<'p>
     requires room { (vec_len threads ≤ vec_capacity ends.controls) × (vec_len threads ≤ vec_capacity ends.datas) }
     requires empty { (ends.controls.items ≡ []) × (ends.datas.items ≡ []) }
 
-    ensures controls { map control_end_seat result.controls.items ≡ map control_in threads.items }
-    ensures datas { map data_end_seat result.datas.items ≡ map data_in threads.items }
+    ensures controls { map control_end_seat result.controls.items ≡ map control_in threads.entry.items }
+    ensures datas { map data_end_seat result.datas.items ≡ map data_in threads.entry.items }
 {
     for thread in threads {
         let SliceEnds { control, data_half } = thread.join(rt);

@@ -1,3 +1,4 @@
+pub mod KeptLemmas
+pub mod LentOctets
 mod Octets
 mod Steps
-mod Loops

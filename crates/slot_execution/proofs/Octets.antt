@@ -1,5 +1,5 @@
 -- A verdict has the octets of its packet, or none.
-use Rattle.std.proofs.Common.{◌≡◌, ℕ, Bool, true, false, cond, Option, Some, None, List, ◌==◌, ◌&&◌, nat_le, length, drop, refl, sym, ap, ◌∙◌, subst}
+use Rattle.std.proofs.Common.{◌≡◌, ℕ, Bool, true, false, cond, Option, Some, None, List, ◌==◌, ◌&&◌, nat_le, length, refl, sym, subst}
 use Rattle.pc_base.specs.declared.packet.Packet.{Packet}
 use Rattle.pc_base.specs.declared.packet.Peer.{Peer}
 use Rattle.pc_base.specs.declared.packet.Way.{Way}
@@ -16,22 +16,8 @@ use Rattle.packet_steps.specs.Past.{Past, row_for, with_row, with_held}
 use Rattle.packet_steps.specs.Policing.{passes}
 use Rattle.packet_steps.specs.Verdicts as given
 use Rattle.packet_steps.specs.declared.lent.LentVerdict.{LentVerdict}
-use Rattle.packet_steps.specs.declared.lent.LentVerdict.TheVariants as lent
-use Rattle.slot_execution.specs.Lending.{HasOctets, verdict_with}
-
--- the octets of a packet are those behind the eight of the tunnel's header
-behind_header : (peer : Peer) (octets : List ℕ) → drop 8 (gpdu peer octets) ≡ octets
-unfolding gpdu
-behind_header peer octets = refl
-
-abbrev OfPacket : List ℕ → Verdict → Type 0
-OfPacket octets (verdict.Up life own) = own ≡ octets
-OfPacket octets (verdict.Down life peer own) = drop 8 own ≡ octets
-OfPacket octets verdict.NoBearer = Unit {0}
-OfPacket octets verdict.Spoof = Unit {0}
-OfPacket octets (verdict.Idle life) = Unit {0}
-OfPacket octets (verdict.Held life message) = Unit {0}
-OfPacket octets (verdict.Policed life) = Unit {0}
+use Rattle.slot_execution.specs.Lending.{HasOctets}
+use Rattle.slot_execution.proofs.LentOctets.{OfPacket, behind_header, has_lent}
 
 either : (octets : List ℕ) (test : Bool) (one other : Past × Verdict) → OfPacket octets one.1
     → OfPacket octets other.1 → OfPacket octets (cond test one other).1
@@ -80,27 +66,7 @@ of_packet past packet =
     either packet.octets (later.version.live && given.is_packet packet.octets)
     (given.judged_by_way later packet packet.way) (later, verdict.NoBearer) (by_way later packet packet.way) tt
 
-has : (octets : List ℕ) (told : LentVerdict) → OfPacket octets (verdict_of told) → HasOctets told octets
-has octets (lent.Up life own) of = of
-has octets (lent.Down life peer own) of = sym (behind_header peer own.now) ∙ of
-has octets lent.NoBearer of = tt
-has octets lent.Spoof of = tt
-has octets (lent.Idle life) of = tt
-has octets (lent.Held life message) of = tt
-has octets (lent.Policed life) of = tt
-
-pub lent_octets : (past : Past) (packet : Packet) (told : LentVerdict)
-    → verdict_of told ≡ (given.judged past packet).1 → HasOctets told packet.octets
-lent_octets past packet told is =
-    has packet.octets told (subst (OfPacket packet.octets) (sym is) (of_packet past packet))
-
--- with its own octets a verdict is what it was
-pub with_own : (told : LentVerdict) (octets : List ℕ) → HasOctets told octets
-    → verdict_with told octets ≡ verdict_of told
-with_own (lent.Up life own) octets is = ap (verdict.Up life) (sym is)
-with_own (lent.Down life peer own) octets is = ap (λ o. verdict.Down life peer.addr (gpdu peer o)) (sym is)
-with_own lent.NoBearer octets is = refl
-with_own lent.Spoof octets is = refl
-with_own (lent.Idle life) octets is = refl
-with_own (lent.Held life message) octets is = refl
-with_own (lent.Policed life) octets is = refl
+pub lent_octets : (past : Past) (packet : Packet) (lent : LentVerdict)
+    → verdict_of lent ≡ (given.judged past packet).1 → HasOctets lent packet.octets
+lent_octets past packet lent is =
+    has_lent packet.octets lent (subst (OfPacket packet.octets) (sym is) (of_packet past packet))

@@ -156,8 +156,6 @@ fn do_packet<'a>(
 {
     few_events_leave_room();
     let packet = &placed.packet;
-    // Below 2^16, as a verdict that is told asks.
-    let _len = packet.ip.total_len();
     let handled = subscriber.judge(packet.moment, packet.way, &packet.ip)?;
     let judged = NumberedVerdict {
         number: handled.number,

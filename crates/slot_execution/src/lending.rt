@@ -1,5 +1,6 @@
 //! A verdict whose octets are lent from where its packet lies.
-ghost use Rattle.std.specs.Prelude.{◌≡◌, ◌<◌, ◌^◌, length};
+ghost use Rattle.std.specs.Prelude.{◌≡◌};
+ghost use Rattle.ipv4_packet.specs.Packet.{IsPacket};
 ghost use Rattle.packet_steps.specs.Lent.{verdict_of};
 ghost use Rattle.report_lines.specs.Lent.{IsShort};
 ghost use Rattle.slot_execution.specs.Lending.{verdict_with};
@@ -9,7 +10,7 @@ use packet_steps::LentVerdict;
 /// The verdict with these octets in place of those that it has, if any.
 pub fn lend_again<'a>(judged: LentVerdict<'_>, octets: &'a [u8]) -> LentVerdict<'a>
     ensures verdict { verdict_of result ≡ verdict_with judged.entry octets.now }
-    ensures short { length octets.now < 2 ^ 16 → IsShort result }
+    ensures short { IsPacket octets.now → IsShort result }
 {
     match judged {
         LentVerdict::Up { life, octets: _ } => LentVerdict::Up { life, octets },

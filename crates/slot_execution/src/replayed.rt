@@ -39,7 +39,7 @@ pub struct Closed {
 }
 
 /// What the events of a slot in an epoch lead to, each kind in the order of the events: replies and
-/// verdicts, to be taken from the front, effects and charging records. The verdicts stand in an arena,
+/// verdicts, to be taken from the start, effects and charging records. The verdicts stand in an arena,
 /// since many slots have few of them.
 #[derive(Drop)]
 pub struct Replayed<'a, 'b> {

@@ -1,7 +1,6 @@
 -- Lines are answered one behind another.
-use Rattle.std.proofs.Common.{ℕ, List, [], ◌∷◌, ◌++◌, refl, subst}
-use Rattle.trace_lines.specs.Line.{Line}
-use Rattle.solo_command.specs.Gateway.{AnswersLine, AnswersLines, Gateway, Told}
+use Rattle.std.proofs.Common.{[], ◌∷◌, refl, subst}
+use Rattle.solo_command.specs.Gateway.{AnswersLines, Gateway}
 use Rattle.solo_command.specs.GatewayLaws.{LinesGoOn, NextLineGoesOn}
 
 pub lines_then : LinesGoOn

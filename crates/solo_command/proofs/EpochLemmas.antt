@@ -1,12 +1,12 @@
 -- Whole epochs are answered one behind another.
-use Rattle.std.proofs.Common.{◌≡◌, ℕ, true, All, List, [], ◌∷◌, ◌++◌, length, refl, sym, ap, ◌∙◌, subst}
+use Rattle.std.proofs.Common.{◌≡◌, true, List, [], ◌∷◌, length, refl, sym, ap, ◌∙◌, subst}
 use Rattle.std.proofs.lemmas.List.Elements.{All-head, All-tail}
 use Rattle.trace_lines.specs.Line.{Line}
 use Rattle.lawful_run.specs.Report.{EpochReport}
 use Rattle.lawful_run.specs.Trace.{is_whole}
-use Rattle.solo_command.specs.Gateway.{AnswersLines, Gateway, Told}
+use Rattle.solo_command.specs.Gateway.{AnswersLines, Gateway}
 use Rattle.solo_command.specs.GatewayLaws.{EpochsGoOn, NextEpochGoesOn}
-use Rattle.solo_command.specs.Reports.{AnswersAll, AnswersEpochs, own_told, reports_of, told_epoch, with_stop}
+use Rattle.solo_command.specs.Reports.{AnswersEpochs, own_told, reports_of, told_epoch, with_stop}
 
 abbrev ends : List Line → Type 0
 ends epoch = is_whole [] epoch ≡ true

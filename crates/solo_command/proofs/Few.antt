@@ -14,7 +14,7 @@ use Rattle.bearer_state.specs.declared.version.ActiveBearer.{ActiveBearer}
 use Rattle.bearer_state.specs.Version.{IsActiveBearer, IsActiveBefore, IsVersion, VersionState, bearer_at}
 use Rattle.packet_steps.specs.declared.plan.Plan.{Plan}
 use Rattle.packet_steps.specs.declared.plan.Plan.TheVariants as plan
-use Rattle.packet_steps.specs.Change.{begun, cut, ended, has_life, marks, marks_between, shared_with, shares_ambr}
+use Rattle.packet_steps.specs.Change.{marks}
 use Rattle.packet_steps.specs.Meters.{learnt_meters}
 use Rattle.packet_steps.specs.Rows.{HeldRow}
 use Rattle.packet_steps.specs.Standing.{CountersState}

@@ -56,11 +56,11 @@ pub gathers_more : (old new : Gathered) (slots : ℕ) (before : Histories) (made
     → Gathers new slots before (made ++ now ∷ [])
 gathers_more old new slots before made now gathers caused closed effects rows = record {
   effects = λ slot. effects slot
-      ∙ ap (λ front. front ++ made_of.effects slot (events_after slot (before slot) made)
+      ∙ ap (λ prefix. prefix ++ made_of.effects slot (events_after slot (before slot) made)
       (brings slot (events_after slot (before slot) made) now)) (gathers.effects slot)
       ∙ sym (effects-next slot (before slot) made now);
   rows = λ slot. rows slot
-      ∙ ap (λ front. front ++ made_of.rows slot (events_after slot (before slot) made)
+      ∙ ap (λ prefix. prefix ++ made_of.rows slot (events_after slot (before slot) made)
       (brings slot (events_after slot (before slot) made) now)) (gathers.rows slot)
       ∙ sym (rows-next slot (before slot) made now);
   effects_below = caused gathers.effects_below;

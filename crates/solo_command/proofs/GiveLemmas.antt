@@ -1,21 +1,19 @@
 -- The report that a gateway gives by what its subscribers hold.
-use Rattle.std.proofs.Common.{◌≡◌, ℕ, ◌+◌, ◌≤◌, ◌<◌, ◌^◌, ◌==◌, false, Result, Ok, List, [], ◌∷◌, ◌++◌, codes, length, map, flat_map, filter, refl, sym, ap, subst, ◌∙◌, append-nil, append_assoc, arith}
+use Rattle.std.proofs.Common.{◌≡◌, ℕ, ◌+◌, ◌≤◌, ◌<◌, ◌^◌, ◌==◌, false, Result, Ok, List, [], ◌∷◌, ◌++◌, length, map, flat_map, filter, refl, sym, ap, subst, ◌∙◌, append-nil, append_assoc, arith}
 use Rattle.std.proofs.lemmas.Grind.{flat_map-append}
 use Rattle.std.proofs.lemmas.List.{map-append}
-use Rattle.trace_lines.specs.Epochs.{epochs_of}
 use Rattle.trace_lines.specs.Input.{Stop, bad, long, big, ended}
 use Rattle.trace_lines.specs.Line.{Line}
 use Rattle.demux.specs.declared.decision.Decision.{Decision}
 use Rattle.demux.specs.Resolved.{decided}
 use Rattle.demux.proofs.MomentLemmas.{moment_if_ok}
 use Rattle.report_lines.specs.Records.{Effected}
-use Rattle.report_lines.specs.declared.entry.ChargeEntry.{ChargeEntry}
 use Rattle.report_lines.specs.declared.entry.Entry.TheVariants as entry
 use Rattle.lawful_run.specs.Cut.{IsCut, lines_in}
-use Rattle.lawful_run.specs.Report.{EpochReport, Report, epoch_entries, report_text, texts_of}
+use Rattle.lawful_run.specs.Report.{epoch_entries, texts_of}
 use Rattle.lawful_run.specs.Run.{by_slot}
 use Rattle.lawful_run.specs.Trace.{is_whole, open_epoch}
-use Rattle.lawful_run.proofs.CutLines.{cut_nothing, epochs_are}
+use Rattle.lawful_run.proofs.CutLines.{epochs_are}
 use Rattle.trace_run.specs.declared.ending.Ending.{Ending}
 use Rattle.trace_run.specs.declared.ending.Ending.TheVariants.{Ended, ReadFault, BadLine, LineLong, TooLong}
 use Rattle.trace_run.specs.Lines.{stop_of}
@@ -23,7 +21,7 @@ use Rattle.trace_run.specs.Report.{IsText, input_with}
 use Rattle.trace_run.specs.Reporting.{IsDueFrom, SaysEpochs}
 use Rattle.trace_run.proofs.EntryLemmas.{epoch_text, epochs_text-push, lines-append, texts-append}
 use Rattle.solo_command.specs.Gateway.{AnswersLines, Gateway, Told}
-use Rattle.solo_command.specs.Reports.{AnswersAll, AnswersEpochs, Gives, is_of, opens_from, own_told, reports_of, stop_told, told_epoch, with_stop}
+use Rattle.solo_command.specs.Reports.{AnswersEpochs, Gives, is_of, opens_from, own_told, reports_of, stop_told, told_epoch, with_stop}
 use Rattle.solo_command.proofs.EpochLemmas.{epoch_then, epochs_then}
 use Rattle.solo_command.proofs.AnswerLemmas.{line_then}
 use Rattle.solo_command.specs.declared.solo.Solo.{Solo}
@@ -252,7 +250,7 @@ gives_due first gateway ending done number lines latest count closed open_ sent 
     let all = so_far.told ++ stop_told stop in
     let more = reports_of slots (own_told all) in
     let epochs = so_far.reports ++ more in
-    let front = texts_of false (flat_map epoch_entries so_far.reports) in
+    let prefix = texts_of false (flat_map epoch_entries so_far.reports) in
     let closing = told_closing slots all in
     let noted_is : noted ≡ told_text all =
     first_ ∙ (λ i. so_far.waits i ++ ending_text (counted i) ending)
@@ -273,7 +271,7 @@ gives_due first gateway ending done number lines latest count closed open_ sent 
       };
       written = ap (λ t. sent ++ t) (third ∙ ap (λ t. t ++ charges_text opens) last_is)
           ∙ ap (λ t. t ++ (texts_of false (flat_map epoch_entries more) ++ charges_text opens)) so_far.said
-          ∙ sym (append_assoc front (texts_of false (flat_map epoch_entries more)) (charges_text opens))
+          ∙ sym (append_assoc prefix (texts_of false (flat_map epoch_entries more)) (charges_text opens))
           ∙ ap (λ t. t ++ charges_text opens)
           (sym (texts-append false (flat_map epoch_entries so_far.reports) (flat_map epoch_entries more))
           ∙ ap (texts_of false) (sym (flat_map-append epoch_entries so_far.reports more)))

@@ -1,5 +1,5 @@
 -- What subscribers hold behind a line, and what a state file says of them.
-use Rattle.std.proofs.Common.{◌≡◌, ℕ, zero, suc, ◌+◌, ◌<◌, ◌≤◌, ◌^◌, Option, Some, IfSome, List, [], ◌∷◌, ◌++◌, length, set, slice_get, get_or, flat_map, map, length-set, length-append, refl, sym, ap, subst, ◌∙◌, arith}
+use Rattle.std.proofs.Common.{◌≡◌, ℕ, zero, suc, ◌+◌, ◌<◌, ◌≤◌, ◌^◌, Option, Some, IfSome, List, [], ◌∷◌, ◌++◌, length, set, slice_get, get_or, flat_map, length-set, length-append, refl, sym, ap, subst, ◌∙◌, arith}
 use Rattle.bearer_state.specs.declared.version.ActiveBearer.{ActiveBearer}
 use Rattle.bearer_state.specs.Session.{SessionState}
 use Rattle.control_steps.specs.declared.command.CommandKind.{CommandKind}
@@ -14,14 +14,12 @@ use Rattle.demux.specs.Destinations.{start_slice}
 use Rattle.demux.specs.Packets.{numbered}
 use Rattle.demux.specs.Resolved.{HasMoment, slot_of}
 use Rattle.gate_model.specs.declared.event.Event.{Event}
-use Rattle.gate_model.specs.SlotPast.{opens_after, version_after}
 use Rattle.gate_model.proofs.SlotLemmas.{of_command}
 use Rattle.pc_base.specs.declared.effect.Effect.{Effect}
 use Rattle.pc_base.specs.declared.packet.Packet.{Packet}
 use Rattle.pc_base.specs.declared.packet.Verdict.{Verdict}
 use Rattle.pc_base.specs.declared.reply.Reply.{Reply}
 use Rattle.charging_book.specs.Rows.{Charged}
-use Rattle.report_lines.specs.declared.entry.ChargeEntry.{ChargeEntry}
 use Rattle.subscriber.specs.Standing.{HasRoom, Represents, SubscriberState, last_of, new_subscriber}
 use Rattle.lawful_run.specs.Merging.{Histories}
 use Rattle.lawful_run.specs.Outcomes.{opens}
@@ -284,7 +282,7 @@ opens_told first (one ∷ others) events each =
     let same : first + 0 ≡ first = omega arith in
     let stands : Represents one first (events first) =
     subst (λ s. Represents one s (events s)) same (each 0 one (omega arith)) in
-    ap (λ front. front ++ opens_from (first + 1) others) (one_open first (events first) one stands)
+    ap (λ prefix. prefix ++ opens_from (first + 1) others) (one_open first (events first) one stands)
     ∙ ap (λ rest. opens first (events first) ++ rest) (opens_told (first + 1) others events
     (λ k none within.
     let next : first + suc k ≡ first + 1 + k = omega arith in

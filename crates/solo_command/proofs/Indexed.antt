@@ -1,17 +1,16 @@
 -- The pieces of a book in the order of its version's bearers: they fit, where the book's own do.
-use Rattle.std.proofs.Common.{◌≡◌, ℕ, suc, ◌+◌, ◌<◌, ◌≤◌, ◌^◌, ◌==◌, ◌&&◌, ◌||◌, Bool, true, false, not, cond, IsTrue, Contains, List, [], ◌∷◌, length, map, Option, Some, None, refl, sym, ap, ◌∙◌, subst, inl, inr, arith, eq-eqb}
-use Rattle.std.specs.List.{AllByRecursion, cons_option, filter_map, list_all, list_any}
-use Rattle.std.proofs.lemmas.Bool.{and_parts, and_from, eqb-true, false≢true, ne_eqb, cases_Bool}
-use Rattle.charging_book.specs.Accounts.{AreDistinct}
+use Rattle.std.proofs.Common.{◌≡◌, ℕ, suc, ◌==◌, ◌&&◌, ◌||◌, Bool, true, false, not, List, [], ◌∷◌, length, Option, Some, refl, sym, ap, ◌∙◌, subst, inl, inr, eq-eqb}
+use Rattle.std.specs.List.{AllByRecursion, cons_option, list_all}
+use Rattle.std.proofs.lemmas.Bool.{and_parts, and_from, eqb-true, false≢true, ne_eqb}
 use Rattle.charging_book.specs.Parts.{are_parts, has_life, is_counting}
 use Rattle.charging_book.specs.Posted.{is_of}
 use Rattle.charging_book.specs.declared.records.Piece.{Piece}
 use Rattle.bearer_state.specs.Bearer.{EachPair}
 use Rattle.bearer_state.specs.Version.{IsActiveBefore, IsVersion, VersionState}
 use Rattle.bearer_state.specs.declared.version.ActiveBearer.{ActiveBearer}
-use Rattle.packet_steps.specs.Parts.{PartsState, all_have_bearers, buckets_fit, fit, has_bearer, held_fit, is_piece_of, may_fit, pieces_fit, were_asked}
+use Rattle.packet_steps.specs.Parts.{all_have_bearers, buckets_fit, has_bearer, held_fit, is_piece_of, may_fit, pieces_fit, were_asked}
 use Rattle.packet_steps.proofs.BearerLemmas.{same_by_life}
-use Rattle.gate_model.proofs.Members.{In, at_each, contains_in, in_any, of_any, of_find}
+use Rattle.gate_model.proofs.Members.{In, contains_in, in_any, of_any, of_find}
 use Rattle.subscriber.proofs.AlikeFits.{fitting_open}
 use Rattle.record_codec.specs.Saved.{ArePiecesFor, IsPieceOf, by_index, piece_for}
 use Rattle.solo_command.specs.GatewayLaws.{PiecesFitInOrder}

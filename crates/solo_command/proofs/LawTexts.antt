@@ -158,7 +158,7 @@ whole_says octets behind room fenced short roomy =
     let stops : (input_within (length octets + extra) 1 0 octets).stop ≡ ended =
     subst (λ r. (input_within r 1 0 octets).stop ≡ ended) rooms fenced.stop in
     let said : Say 1 0 octets =
-    all_said 1 0 extra [] octets (All-nil (λ o. o ≢ newline)) (ends_at_last octets fenced.front fenced.parts) stops in
+    all_said 1 0 extra [] octets (All-nil (λ o. o ≢ newline)) (ends_at_last octets fenced.prefix fenced.parts) stops in
     let lines = said.lines in
     let whole_input : input_of (octets ++ behind)
     ≡ after_lines lines (input_within extra (1 + length lines) (latest_behind 0 lines) behind) =

@@ -17,17 +17,17 @@ pub record Say (number least : ℕ) (octets : List ℕ) : Type 0 where
   pub says : (room : ℕ) (behind : List ℕ) → input_within (length octets + room) number least (octets ++ behind)
       ≡ after_lines lines (input_within room (number + length lines) (latest_behind least lines) behind)
 
--- octets behind the front of a line end with a newline, or there are none
+-- octets behind the start of a line end with a newline, or there are none
 abbrev pub either : Bool → Type 0 → Type 0 → Type 0
 either true X Y = X
 either false X Y = Y
 
 abbrev pub Ends : List ℕ → List ℕ → Type 0
-Ends front [] = front ≡ []
-Ends front (octet ∷ octets) = either (octet == newline) (Ends [] octets) (Ends (front ++ octet ∷ []) octets)
+Ends prefix [] = prefix ≡ []
+Ends prefix (octet ∷ octets) = either (octet == newline) (Ends [] octets) (Ends (prefix ++ octet ∷ []) octets)
 
 abbrev EndsSo : Bool → List ℕ → ℕ → List ℕ → Type 0
-EndsSo is front octet octets = either is (Ends [] octets) (Ends (front ++ octet ∷ []) octets)
+EndsSo is prefix octet octets = either is (Ends [] octets) (Ends (prefix ++ octet ∷ []) octets)
 
 same_test : (octet : ℕ) → octet ≡ newline → (octet == newline) ≡ true
 same_test octet same = eq-eqb octet newline same
@@ -74,76 +74,76 @@ not_long number is = cc
 abbrev StopsNowhere : (number least extra : ℕ) → List ℕ → Type 0
 StopsNowhere number least extra octets = (input_within (length octets + extra) number least octets).stop ≡ ended
 
-first_line : (number least extra : ℕ) (front octets : List ℕ) → NoNewline front → length front ≤ line_max
-    → input_within (length (front ++ newline ∷ octets) + extra) number least (front ++ newline ∷ octets)
-    ≡ line_then number (line_meaning least number front)
+first_line : (number least extra : ℕ) (prefix octets : List ℕ) → NoNewline prefix → length prefix ≤ line_max
+    → input_within (length (prefix ++ newline ∷ octets) + extra) number least (prefix ++ newline ∷ octets)
+    ≡ line_then number (line_meaning least number prefix)
     (λ l. input_within (length octets + extra) (number + 1) l.moment octets)
-first_line number least extra front octets no_newline short =
-    let rooms : length (front ++ newline ∷ octets) + extra ≡ length front + 1 + (length octets + extra) =
-    omega (arith, length-append front (newline ∷ octets)) in
-    ap (λ r. input_within r number least (front ++ newline ∷ octets)) rooms
-    ∙ whole_line (length octets + extra) number least front octets no_newline short
+first_line number least extra prefix octets no_newline short =
+    let rooms : length (prefix ++ newline ∷ octets) + extra ≡ length prefix + 1 + (length octets + extra) =
+    omega (arith, length-append prefix (newline ∷ octets)) in
+    ap (λ r. input_within r number least (prefix ++ newline ∷ octets)) rooms
+    ∙ whole_line (length octets + extra) number least prefix octets no_newline short
 
 -- a line ends here, and what comes behind it says lines
-line_ends : (number least extra : ℕ) (front octets : List ℕ) → NoNewline front → length front ≤ line_max
-    → StopsNowhere number least extra (front ++ newline ∷ octets)
+line_ends : (number least extra : ℕ) (prefix octets : List ℕ) → NoNewline prefix → length prefix ≤ line_max
+    → StopsNowhere number least extra (prefix ++ newline ∷ octets)
     → ((n l : ℕ) → StopsNowhere n l extra octets → Say n l octets) → (read : Result Line LineBad)
-    → line_meaning least number front ≡ read → Say number least (front ++ newline ∷ octets)
-line_ends number least extra front octets no_newline short stops later (Err why) means =
+    → line_meaning least number prefix ≡ read → Say number least (prefix ++ newline ∷ octets)
+line_ends number least extra prefix octets no_newline short stops later (Err why) means =
     let behind : Line → Input = λ l. input_within (length octets + extra) (number + 1) l.moment octets in
-    let said = first_line number least extra front octets no_newline short
+    let said = first_line number least extra prefix octets no_newline short
     ∙ ap (λ (read : Result Line LineBad). line_then number read behind) means in
     absurd (not_refused number why behind (sym (ap (λ (i : Input). i.stop) said) ∙ stops))
-line_ends number least extra front octets no_newline short stops later (Ok now) means =
+line_ends number least extra prefix octets no_newline short stops later (Ok now) means =
     let behind : Line → Input = λ l. input_within (length octets + extra) (number + 1) l.moment octets in
-    let said = first_line number least extra front octets no_newline short
+    let said = first_line number least extra prefix octets no_newline short
     ∙ ap (λ (read : Result Line LineBad). line_then number read behind) means in
-    then_say number least front octets now no_newline short means
+    then_say number least prefix octets now no_newline short means
     (later (number + 1) now.moment (sym (ap (λ (i : Input). i.stop) said) ∙ stops))
 
-short_or_long : (number least extra : ℕ) (front octets : List ℕ) → NoNewline front
-    → StopsNowhere number least extra (front ++ newline ∷ octets) → length front ≤ line_max
-short_or_long number least extra front octets no_newline stops = elim (cases_lt line_max (length front)) [
+short_or_long : (number least extra : ℕ) (prefix octets : List ℕ) → NoNewline prefix
+    → StopsNowhere number least extra (prefix ++ newline ∷ octets) → length prefix ≤ line_max
+short_or_long number least extra prefix octets no_newline stops = elim (cases_lt line_max (length prefix)) [
   | inl too_long ↦
-      let stopped_long = line_long (length (front ++ newline ∷ octets) + extra) number least front (newline ∷ octets)
-      no_newline too_long (omega (arith, length-append front (newline ∷ octets))) in
+      let stopped_long = line_long (length (prefix ++ newline ∷ octets) + extra) number least prefix (newline ∷ octets)
+      no_newline too_long (omega (arith, length-append prefix (newline ∷ octets))) in
       absurd (not_long number (sym (ap (λ (i : Input). i.stop) stopped_long) ∙ stops))
   | inr short ↦ short
 ]
 
 -- one octet more
-one_octet : (number least extra : ℕ) (front : List ℕ) (octet : ℕ) (octets : List ℕ) → NoNewline front
-    → StopsNowhere number least extra (front ++ octet ∷ octets)
+one_octet : (number least extra : ℕ) (prefix : List ℕ) (octet : ℕ) (octets : List ℕ) → NoNewline prefix
+    → StopsNowhere number least extra (prefix ++ octet ∷ octets)
     → ((n l : ℕ) → Ends [] octets → StopsNowhere n l extra octets → Say n l octets)
-    → (NoNewline (front ++ octet ∷ []) → Ends (front ++ octet ∷ []) octets
-    → StopsNowhere number least extra ((front ++ octet ∷ []) ++ octets)
-    → Say number least ((front ++ octet ∷ []) ++ octets))
-    → (is : Bool) → (octet == newline) ≡ is → EndsSo is front octet octets
-    → Say number least (front ++ octet ∷ octets)
-one_octet number least extra front octet octets no_newline stops later longer true is ends =
+    → (NoNewline (prefix ++ octet ∷ []) → Ends (prefix ++ octet ∷ []) octets
+    → StopsNowhere number least extra ((prefix ++ octet ∷ []) ++ octets)
+    → Say number least ((prefix ++ octet ∷ []) ++ octets))
+    → (is : Bool) → (octet == newline) ≡ is → EndsSo is prefix octet octets
+    → Say number least (prefix ++ octet ∷ octets)
+one_octet number least extra prefix octet octets no_newline stops later longer true is ends =
     let same : octet ≡ newline = eqb-true octet newline is in
-    let stops_so : StopsNowhere number least extra (front ++ newline ∷ octets) =
-    subst (λ first. StopsNowhere number least extra (front ++ first ∷ octets)) same stops in
-    subst (λ first. Say number least (front ++ first ∷ octets)) (sym same)
-    (line_ends number least extra front octets no_newline
-    (short_or_long number least extra front octets no_newline stops_so) stops_so (λ n l stop. later n l ends stop)
-    (line_meaning least number front) refl)
-one_octet number least extra front octet octets no_newline stops later longer false is ends =
-    let grown : (front ++ octet ∷ []) ++ octets ≡ front ++ octet ∷ octets = append_assoc front (octet ∷ []) octets in
+    let stops_so : StopsNowhere number least extra (prefix ++ newline ∷ octets) =
+    subst (λ first. StopsNowhere number least extra (prefix ++ first ∷ octets)) same stops in
+    subst (λ first. Say number least (prefix ++ first ∷ octets)) (sym same)
+    (line_ends number least extra prefix octets no_newline
+    (short_or_long number least extra prefix octets no_newline stops_so) stops_so (λ n l stop. later n l ends stop)
+    (line_meaning least number prefix) refl)
+one_octet number least extra prefix octet octets no_newline stops later longer false is ends =
+    let grown : (prefix ++ octet ∷ []) ++ octets ≡ prefix ++ octet ∷ octets = append_assoc prefix (octet ∷ []) octets in
     let other : octet ≢ newline = λ same. false≢true (sym is ∙ same_test octet same) in
     subst (Say number least) grown
-    (longer (All-push (λ o. o ≢ newline) front octet no_newline other) ends
+    (longer (All-push (λ o. o ≢ newline) prefix octet no_newline other) ends
     (subst (StopsNowhere number least extra) (sym grown) stops))
 
 -- octets that stop nowhere and end with a newline
-pub all_said : (number least extra : ℕ) (front octets : List ℕ) → NoNewline front → Ends front octets
-    → StopsNowhere number least extra (front ++ octets) → Say number least (front ++ octets)
-all_said number least extra front [] no_newline ends stops =
+pub all_said : (number least extra : ℕ) (prefix octets : List ℕ) → NoNewline prefix → Ends prefix octets
+    → StopsNowhere number least extra (prefix ++ octets) → Say number least (prefix ++ octets)
+all_said number least extra prefix [] no_newline ends stops =
     subst (λ (f : List ℕ). Say number least (f ++ [])) (sym ends) (say_nothing number least)
-all_said number least extra front (octet ∷ octets) no_newline ends stops =
-    one_octet number least extra front octet octets no_newline stops
+all_said number least extra prefix (octet ∷ octets) no_newline ends stops =
+    one_octet number least extra prefix octet octets no_newline stops
     (λ n l ends_now stop. all_said n l extra [] octets (All-nil (λ o. o ≢ newline)) ends_now stop)
-    (λ none ends_now stop. all_said number least extra (front ++ octet ∷ []) octets none ends_now stop)
+    (λ none ends_now stop. all_said number least extra (prefix ++ octet ∷ []) octets none ends_now stop)
     (octet == newline) refl ends
 
 -- octets that end with a newline
@@ -151,11 +151,11 @@ either_way : (is : Bool) (X Y : Type 0) → X → Y → either is X Y
 either_way true X Y x y = x
 either_way false X Y x y = y
 
-ends_behind : (before front : List ℕ) → Ends before (front ++ newline ∷ [])
+ends_behind : (before prefix : List ℕ) → Ends before (prefix ++ newline ∷ [])
 ends_behind before [] = refl
-ends_behind before (octet ∷ front) =
-    either_way (octet == newline) (Ends [] (front ++ newline ∷ [])) (Ends (before ++ octet ∷ []) (front ++ newline ∷ []))
-    (ends_behind [] front) (ends_behind (before ++ octet ∷ []) front)
+ends_behind before (octet ∷ prefix) =
+    either_way (octet == newline) (Ends [] (prefix ++ newline ∷ [])) (Ends (before ++ octet ∷ []) (prefix ++ newline ∷ []))
+    (ends_behind [] prefix) (ends_behind (before ++ octet ∷ []) prefix)
 
-pub ends_at_last : (octets front : List ℕ) → octets ≡ front ++ newline ∷ [] → Ends [] octets
-ends_at_last octets front is = subst (Ends []) (sym is) (ends_behind [] front)
+pub ends_at_last : (octets prefix : List ℕ) → octets ≡ prefix ++ newline ∷ [] → Ends [] octets
+ends_at_last octets prefix is = subst (Ends []) (sym is) (ends_behind [] prefix)

@@ -166,7 +166,7 @@ bad_waits closed open_ why lines waiting counted waits =
       length-append (lines_in closed) open_,
       length-meant_from slices (lines_in closed) open_,
     ) in
-    ap (λ front. front ++ text_line (entry.Line (line_entry.N (record { line = lines + 1; note = text }))))
+    ap (λ prefix. prefix ++ text_line (entry.Line (line_entry.N (record { line = lines + 1; note = text }))))
     (waits ∙ ap (λ m. entries_text (entries_from first (closed_events closed) m)) (append-nil made))
     ∙ ap (λ n. entries_text (entries_from first (closed_events closed) made)
     ++ text_line (entry.Line (line_entry.N (record { line = n; note = text })))) same

@@ -11,13 +11,12 @@ use Rattle.bearer_state.specs.Qos.{is_guaranteed}
 use Rattle.bearer_state.specs.Session.{SessionState}
 use Rattle.bearer_state.specs.Version.{VersionState, version_of}
 use Rattle.bearer_state.specs.declared.version.ActiveBearer.{ActiveBearer}
-use Rattle.packet_steps.specs.Meters.{own_meter}
+use Rattle.packet_steps.specs.Meters.{MetersState, own_meter}
 use Rattle.packet_steps.specs.Parts.{IsMadeOf, PartsState, buckets_in, own_buckets}
 use Rattle.packet_steps.specs.declared.meters.Meter.{Meter}
-use Rattle.packet_steps.specs.declared.meters.Meters.{Meters}
 use Rattle.subscriber.specs.Standing.{SubscriberState}
 use Rattle.gate_model.proofs.Members.{In, contains_in, in_map, of_any, of_find}
-use Rattle.subscriber.specs.Alike.{AreAlike, ArePiecesAlike, life_of}
+use Rattle.subscriber.specs.Alike.{ArePiecesAlike, life_of}
 use Rattle.subscriber.specs.Alike as alike
 use Rattle.subscriber.specs.Charging.{AreOpen}
 use Rattle.subscriber.specs.Subscribers.{AreSubscribersAlike}
@@ -35,7 +34,7 @@ own_if : (guaranteed : Bool) (x y : Meter) → (guaranteed ≡ true → x ≡ y)
 own_if true x y same = ap (λ (m : Meter). m.up ∷ m.down ∷ []) (same refl)
 own_if false x y same = refl
 
-all_own : (m n : Meters) (bearers : List ActiveBearer)
+all_own : (m n : MetersState) (bearers : List ActiveBearer)
     → ((b : ActiveBearer) → In b bearers → is_guaranteed b.qos.qci ≡ true → own_meter m b.index ≡ own_meter n b.index)
     → flat_map (own_buckets m) bearers ≡ flat_map (own_buckets n) bearers
 all_own m n [] same = refl

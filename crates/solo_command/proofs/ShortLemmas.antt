@@ -30,7 +30,7 @@ planned_so (plan.Policed bearer up bucket) octets = tt
 planned_so (plan.Up bearer bucket len) octets = tt
 planned_so (plan.Down bearer peer bucket len) octets = length-gpdu peer octets
 
-short_of : (told : LentVerdict) (n : ℕ) → GoesDownAs n (verdict_of told) → n < 2 ^ 16 → IsShort told
+short_of : (lent : LentVerdict) (n : ℕ) → GoesDownAs n (verdict_of lent) → n < 2 ^ 16 → IsShort lent
 short_of (lent.Up life octets) n is few = tt
 short_of (lent.Down life peer octets) n is few = omega (arith, few, is, length-gpdu peer octets.now)
 short_of lent.NoBearer n is few = tt
@@ -39,7 +39,7 @@ short_of (lent.Idle life) n is few = tt
 short_of (lent.Held life message) n is few = tt
 short_of (lent.Policed life) n is few = tt
 
-pub is_short : (told : LentVerdict) (made : Plan) (octets : List ℕ) → verdict_of told ≡ verdict_by made octets
-    → length octets < 2 ^ 16 → IsShort told
-is_short told made octets same few =
-    short_of told (length octets) (subst (GoesDownAs (length octets)) (sym same) (planned_so made octets)) few
+pub is_short : (lent : LentVerdict) (made : Plan) (octets : List ℕ) → verdict_of lent ≡ verdict_by made octets
+    → length octets < 2 ^ 16 → IsShort lent
+is_short lent made octets same few =
+    short_of lent (length octets) (subst (GoesDownAs (length octets)) (sym same) (planned_so made octets)) few

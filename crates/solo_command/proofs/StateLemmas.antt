@@ -2,14 +2,14 @@
 use Rattle.std.proofs.Common.{◌≡◌, ◌≢◌, ℕ, cond, List, [], ◌∷◌, ◌++◌, ◌⊎◌, inl, inr, Option, Some, None, refl, sym, ap, ◌∙◌, subst, append-nil}
 use Rattle.std.specs.Option.{is_some}
 use Rattle.pc_outside.specs.Faults.{Rises}
-use Rattle.pc_outside.specs.Texts.{Text, Texts, after_lines, big, ended, long, texts_of}
+use Rattle.pc_outside.specs.Texts.{Text, Texts, big, ended, long, texts_of}
 use Rattle.pc_outside.specs.Texts as texts
 use Rattle.record_codec.specs.StateLines.{others_in, piece_in}
-use Rattle.record_codec.specs.StateLines as front
+use Rattle.record_codec.specs.StateLines as state_lines
 use Rattle.record_codec.specs.StateReading.{IsBadState, IsBig, IsLong}
 use Rattle.record_codec.specs.StateText.{trace_word}
 use Rattle.record_codec.specs.StateLaws.{LinesSayOneState}
-use Rattle.record_codec.proofs.SavedLemmas.{one_front}
+use Rattle.record_codec.proofs.SavedLemmas.{same_before}
 use Rattle.trace_run.specs.declared.status.Status.{Status}
 use Rattle.trace_run.specs.declared.status.Status.TheVariants as status
 use Rattle.solo_command.specs.Resumes.{HasState, Resumed, StatesAreOne, StatesAreTold, StatesAreToldExactly, StoppedFirst, TellsTaken}
@@ -52,8 +52,8 @@ none_bad octets found (inl bad) =
     let same : found.texts ++ begins.0 ≡ bad.0 ++ bad.1.lines =
     sym begins.1 ∙ ap (λ (t : Texts). t.lines) bad.2 in
     let one : found.texts ≡ bad.0 =
-    one_front found.texts bad.0 begins.0 bad.1.lines trace_word none.other found.says.trace none.last same in
-    none.none found.file (subst (λ (ts : List Text). front.SaysState ts found.file) one found.says)
+    same_before found.texts bad.0 begins.0 bad.1.lines trace_word none.other found.says.trace none.last same in
+    none.none found.file (subst (λ (ts : List Text). state_lines.SaysState ts found.file) one found.says)
 none_bad octets found (inr over) = some_other octets found over.1
 
 pub none_stopped : (octets : List ℕ) (stop : texts.Stop) → HasState octets

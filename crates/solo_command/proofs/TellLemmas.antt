@@ -66,10 +66,10 @@ waits_more : (old new : Gathered) (slots : ℕ) (open_ : List Told) (told : Told
     → Waits new slots (open_ ++ told ∷ [])
 waits_more old new slots open_ told waits effects rows caused closed = record {
   effects = λ slot. effects slot
-      ∙ ap (λ front. front ++ filter (λ (effected : Effected). effected.slot == slot) told.effects)
+      ∙ ap (λ prefix. prefix ++ filter (λ (effected : Effected). effected.slot == slot) told.effects)
       (waits.effects slot)
       ∙ joined (λ (one : Told). one.effects) (λ (effected : Effected). effected.slot == slot) open_ told;
-  rows = λ slot. rows slot ∙ ap (λ front. front ++ filter (is_of slot) told.rows) (waits.rows slot)
+  rows = λ slot. rows slot ∙ ap (λ prefix. prefix ++ filter (is_of slot) told.rows) (waits.rows slot)
       ∙ joined (λ (one : Told). one.rows) (is_of slot) open_ told;
   effects_below = caused;
   rows_below = closed;

@@ -63,12 +63,12 @@ epochs_text-push slots epochs made =
     let first = 1 + length (flat_map (λ (lines : List Meaning). lines) epochs) in
     let before = behind_epochs no_events epochs in
     let told = answered_epoch slots first before made in
-    let front = answered_from slots 1 no_events epochs in
+    let prefix = answered_from slots 1 no_events epochs in
     ap (λ reports. texts_of false (flat_map epoch_entries reports)) (answered_from-push slots 1 no_events epochs made)
-    ∙ ap (texts_of false) (flat_map-append epoch_entries front (told ∷ [])
-    ∙ ap (λ entries. flat_map epoch_entries front ++ entries) (append-nil (epoch_entries told)))
-    ∙ texts-append (flat_map epoch_entries front) (epoch_entries told)
-    ∙ ap (λ text. texts_of false (flat_map epoch_entries front) ++ text) (epoch_text slots first before made)
+    ∙ ap (texts_of false) (flat_map-append epoch_entries prefix (told ∷ [])
+    ∙ ap (λ entries. flat_map epoch_entries prefix ++ entries) (append-nil (epoch_entries told)))
+    ∙ texts-append (flat_map epoch_entries prefix) (epoch_entries told)
+    ∙ ap (λ text. texts_of false (flat_map epoch_entries prefix) ++ text) (epoch_text slots first before made)
 
 pub closed_text-push : (slots : ℕ) (closed : List (List Line)) (epochs : List (List Meaning)) (made : List Meaning)
     → epochs ≡ meant_epochs slices [] closed ++ made ∷ []

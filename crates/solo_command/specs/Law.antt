@@ -32,8 +32,8 @@ ResumedReportsGoOn = (slices : ℕ) (before behind : List Line) (closed : List (
 -- octets whose last line is a FENCE, with its newline
 pub record EndWithFence (octets : List ℕ) : Type 0 where
   pub stop : (input_of octets).stop ≡ ended
-  pub front : List ℕ
-  pub parts : octets ≡ front ++ newline ∷ []
+  pub prefix : List ℕ
+  pub parts : octets ≡ prefix ++ newline ∷ []
   pub earlier : List Line
   pub last : Line
   pub lines : (input_of octets).lines ≡ earlier ++ last ∷ []

@@ -30,7 +30,6 @@ impl Resumer {
         ensures first { HasTold (gateway_of result.solo) result.solo 0 file.moment [] [] [] [] }
         ensures nothing { SaysEpochs (Gives slices (gateway_of result.solo)) false [] [] }
     {
-        file.known();
         let lines = file.lines;
         Resumer {
             solo: Solo::behind(alloc, file),
@@ -53,7 +52,7 @@ impl Reporter for Resumer {
 
     ghost represents = { λ first now done latest. HasTold (gateway_of first.solo) now.solo (length done) latest };
 
-    fn take(&mut self, line: &TraceLine, text: &mut Text) -> Result<(), AllocError> {
+    fn take(&mut self, line: &mut TraceLine, text: &mut Text) -> Result<(), AllocError> {
         self.solo.enter(line, text)?;
         Ok(())
     }

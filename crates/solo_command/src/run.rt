@@ -25,7 +25,7 @@ impl Reporter for Solo {
 
     ghost represents = { λ first now. HasAnswered now };
 
-    fn take(&mut self, line: &TraceLine, text: &mut Text) -> Result<(), AllocError> {
+    fn take(&mut self, line: &mut TraceLine, text: &mut Text) -> Result<(), AllocError> {
         self.enter(line, text)?;
         Ok(())
     }

@@ -1,6 +1,6 @@
 //! The sequential gateway, on one thread: each line is answered before the next.
-ghost use Rattle.std.specs.Prelude.{◌≡◌, ℕ, ◌≤◌, ◌<◌, ◌^◌, ◌==◌, ◌+◌, ◌∷◌, ◌++◌, [], List};
-ghost use Rattle.std.specs.Prelude.{flat_map, length, map, find, None, OnOk, IfOk};
+ghost use Rattle.std.specs.Prelude.{◌≡◌, ℕ, ◌≤◌, ◌<◌, ◌+◌, ◌∷◌, ◌++◌, [], List};
+ghost use Rattle.std.specs.Prelude.{length, None, OnOk, IfOk};
 ghost use Rattle.demux.specs.Resolved.{IsDue, book_with, decided, slot_of};
 ghost use Rattle.demux.specs.declared.decision.Decision.TheVariants as decision;
 ghost use Rattle.demux.specs.declared.decision.Whose.TheVariants.{Known, New};

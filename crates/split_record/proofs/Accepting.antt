@@ -1,8 +1,8 @@
 -- What was accepted, as one command or one packet more is.
-use Rattle.std.proofs.Common.{◌≡◌, ℕ, ◌+◌, ◌-◌, ◌≤◌, length, arith, unwrap_or, List, [], ◌∷◌, ◌++◌, map, take, All}
+use Rattle.std.proofs.Common.{◌≡◌, ℕ, ◌+◌, ◌-◌, ◌≤◌, length, arith, unwrap_or, List, [], ◌∷◌, ◌++◌, map, All}
 use Rattle.std.proofs.Common.{sym, ap, ◌∙◌, subst, append_assoc, length-append}
 use Rattle.std.proofs.lemmas.List.{map-append, take-append-le}
-use Rattle.std.proofs.lemmas.List.Elements.{All-nil, All-cons, All-head, All-tail, All-push, All-weaker}
+use Rattle.std.proofs.lemmas.List.Elements.{All-nil, All-cons, All-head, All-tail, All-push}
 use Rattle.subscriber.specs.Standing.{commands_met, last_of}
 use Rattle.control_half.specs.declared.items.CommandItem.{CommandItem}
 use Rattle.counter_half.specs.declared.items.DataItem.{DataItem}
@@ -63,23 +63,6 @@ all_moments (item ∷ items) last early =
     (all_moments items last (All-tail P item items early))
 
 module _ (old new : FrontEnd) (items : List DataItem) (same : IsSameFront old new) (are : AreAccepted old items) where
-  -- commands more are accepted
-  pub accepted_commands : (more : List CommandItem) → commands_sent new ≡ commands_sent old ++ more
-      → new.packets ≡ old.packets → AreAccepted new items
-  accepted_commands more sent packets = record {
-    counted = packets ∙ are.counted
-        ∙ (λ i. (sym same.started i).value.packets + length items);
-    numbered = subst (λ (p : ℕ × ℕ). AreNumbered p.0 p.1 items)
-        (λ i. (sym same.slot i, (sym same.started i).value.packets)) are.numbered;
-    standing = All-weaker (MayStand (commands_met (start_of old)) (commands_sent old))
-        (MayStand (commands_met (start_of new)) (commands_sent new))
-        (λ item is. subst (λ (p : ℕ × List CommandItem). MayStand p.0 p.1 item)
-        (λ i. ((sym same.started i).value.version.number, sym sent i))
-        (standing_more (commands_met (start_of old)) (commands_sent old) more item is)) items are.standing;
-    late = subst (λ (n : ℕ). AreLate n (map moment_of items))
-        (λ i. unwrap_or (last_of (unbound (sym same.started i).value)) 0) are.late;
-  }
-
   -- a packet more is accepted
   pub accepted_packet : (item : DataItem) (last : ℕ) → commands_sent new ≡ commands_sent old
       → new.packets ≡ old.packets + 1 → item.slot ≡ old.slot → item.number ≡ old.packets

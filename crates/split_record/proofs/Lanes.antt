@@ -11,12 +11,12 @@ module _ {X : Type 0} where
       → sent ≡ taken ++ rest → number ≡ first + length (before_head head taken)
       → (take (number - first) sent ≡ before_head head taken) × (drop (number - first) sent ≡ option_to_list head ++ rest)
   lane_closed first number head sent taken rest next all is =
-      let front : List X = before_head head taken in
+      let prefix : List X = before_head head taken in
       let left : List X = option_to_list head ++ rest in
-      let k : number - first ≡ length front = omega (arith, is) in
-      let whole : sent ≡ front ++ left =
-      all ∙ ap (λ (l : List X). l ++ rest) next ∙ append_assoc front (option_to_list head) rest in
-      ((λ i. take (k i) (whole i)) ∙ take-append_seam front left, (λ i. drop (k i) (whole i)) ∙ drop-append_seam front left)
+      let k : number - first ≡ length prefix = omega (arith, is) in
+      let whole : sent ≡ prefix ++ left =
+      all ∙ ap (λ (l : List X). l ++ rest) next ∙ append_assoc prefix (option_to_list head) rest in
+      ((λ i. take (k i) (whole i)) ∙ take-append_seam prefix left, (λ i. drop (k i) (whole i)) ∙ drop-append_seam prefix left)
 
   -- what was sent through a lane are the parts learnt, those in hand, and those that were left there
   pub batches_closed : {P : Type 0} (in_batch : X → List P) (sent taken rest : List X) (learnt kept : List P)

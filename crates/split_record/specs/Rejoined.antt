@@ -1,6 +1,5 @@
 -- What a clause says of a subscriber that is split, and of one that is whole again.
-use Rattle.std.specs.Prelude.{◌≡◌, ℕ, ◌+◌, ◌<◌, List, [], ◌++◌, length, map, All, unwrap_or}
-use Rattle.std.specs.Prelude.{Bool, ◌∷◌}
+use Rattle.std.specs.Prelude.{◌≡◌, ℕ, ◌+◌, List, [], ◌∷◌, ◌++◌, length, map, All, unwrap_or}
 use Rattle.lane_core.specs.Ends.{sender_lane, sent, full_answers}
 use Rattle.pc_base.specs.declared.packet.Packet.{Packet}
 use Rattle.control_steps.specs.declared.command.CommandKind.{CommandKind}
@@ -80,12 +79,11 @@ pub record Sends (old : FrontEnd) (line : ℕ) (command : CommandKind) (new : Fr
   pub fulls : full_answers new.lane ≡ full_answers old.lane
 
 -- the item of a packet: it has the next number, and the commands before the last move for a floor
-pub record IsItemOf (front : FrontEnd) (line : ℕ) (parked : Bool) (packet : Packet) (item : DataItem) : Type 0 where
+pub record IsItemOf (front : FrontEnd) (line : ℕ) (packet : Packet) (item : DataItem) : Type 0 where
   pub slot : item.slot ≡ front.slot
   pub number : item.number ≡ front.packets
   pub floor : item.floor ≡ front.commands_before
   pub line_is : item.line ≡ line
-  pub parked_is : item.parked ≡ parked
   pub packet_is : item.packet ≡ record packet { number = front.packets }
 
 -- a subscriber was split, with lanes of a room for its commands and its versions

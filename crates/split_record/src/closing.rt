@@ -1,10 +1,9 @@
 //! The closing pass: commands are applied, versions learnt, packets handled.
-ghost use Rattle.std.specs.Prelude.{◌≡◌, ◌+◌, ◌++◌, [], ◌∷◌, true, false, None, length};
+ghost use Rattle.std.specs.Prelude.{◌≡◌, ◌+◌, [], ◌∷◌, true, false, None, length};
 ghost use Rattle.std.specs.Prelude.{IfOk, OnOk, IsTrue, IsFalse, MatchOption};
 ghost use Rattle.split_record.specs.Rejoined.{AreAccepted, Finishes};
 ghost use Rattle.counter_half.specs.Half.{IsReady};
 ghost use Rattle.counter_half.specs.Handled.{places_in};
-ghost use Rattle.control_half.specs.Published.{in_kept, in_batches};
 ghost use Rattle.split_record.specs.Closing.{IsSpent, Waits, to_learn};
 
 use crate::laws::known_pasts;
@@ -20,27 +19,27 @@ use subscriber::Subscriber;
 
 /// A subscriber whose lanes are closed.
 #[derive(Drop)]
-pub(crate) struct Closing {
+pub(crate) struct Closing<'p> {
     pub(crate) control: Commanded,
     /// How many of the commands that were left in the lane are applied.
     pub(crate) applied: usize,
-    pub(crate) state: HalfState,
+    pub(crate) state: HalfState<'p>,
     /// A batch in hand, which is learnt before the others.
     pub(crate) taken: Option<Batch<Version>>,
     /// Batches that aren't learnt, in the order in which they are published.
     pub(crate) batches: Vec<Batch<Version>>,
     /// Packets that were accepted and not handled, and how many are handled now.
-    pub(crate) left: Vec<DataItem>,
+    pub(crate) left: Vec<DataItem<'p>>,
     pub(crate) handled: usize,
 }
 
-impl Closing {
+impl<'p> Closing<'p> {
     ghost use Rattle.split_record.specs.Origin.{start_in, commands_in, items_in_all, places_in_all, LeftMeetAll};
     ghost use Rattle.split_record.specs.Origin.{IsClosing, IsApplied, IsDone, commands_left, items_left};
 
     /// Applies what commands are left. Then each packet is handled behind every version whose floor is met
     /// there, and at last every version is learnt. Out of memory, what is done stays done.
-    pub(crate) fn work(&mut self, alloc: Global, origin: &Origin) -> Result<(), NoMemory>
+    pub(crate) fn work(&mut self, alloc: Global, origin: &Origin<'p>) -> Result<(), NoMemory>
         requires at { IsClosing origin.now self.old }
         requires accepted { AreAccepted origin.now.front.value (items_in_all origin.now) }
 
@@ -53,7 +52,7 @@ impl Closing {
     }
 
     /// Puts the batch that wasn't sent behind those that were.
-    fn queue(&mut self, origin: &Origin) -> Result<(), NoMemory>
+    fn queue(&mut self, origin: &Origin<'p>) -> Result<(), NoMemory>
         requires at { IsClosing origin.now self.old }
 
         ensures at { IsClosing origin.now self.new }
@@ -68,7 +67,7 @@ impl Closing {
     }
 
     /// Applies every command, and makes its version.
-    fn apply_all(&mut self, alloc: Global, origin: &Origin) -> Result<(), NoMemory>
+    fn apply_all(&mut self, alloc: Global, origin: &Origin<'p>) -> Result<(), NoMemory>
         requires at { IsClosing origin.now self.old }
         requires none { self.old.control.kept ≡ None }
 
@@ -83,7 +82,7 @@ impl Closing {
     }
 
     /// Applies the next command; tells whether there was one.
-    fn apply_next(&mut self, origin: &Origin) -> Result<bool, NoMemory>
+    fn apply_next(&mut self, origin: &Origin<'p>) -> Result<bool, NoMemory>
         requires at { IsClosing origin.now self.old }
         requires due { self.old.control.due ≡ None }
 
@@ -101,7 +100,7 @@ impl Closing {
     }
 
     /// Applies the command that was taken from the lane; tells whether there was one.
-    fn apply_head(&mut self, origin: &Origin) -> Result<bool, NoMemory>
+    fn apply_head(&mut self, origin: &Origin<'p>) -> Result<bool, NoMemory>
         requires at { IsClosing origin.now self.old }
         requires due { self.old.control.due ≡ None }
 
@@ -122,7 +121,7 @@ impl Closing {
     }
 
     /// Applies the next one of those that were left in the lane; tells whether there was one.
-    fn apply_rest(&mut self, origin: &Origin) -> Result<bool, NoMemory>
+    fn apply_rest(&mut self, origin: &Origin<'p>) -> Result<bool, NoMemory>
         requires at { IsClosing origin.now self.old }
         requires due { self.old.control.due ≡ None }
         requires head { self.old.control.head ≡ None }
@@ -144,7 +143,7 @@ impl Closing {
     }
 
     /// Makes the version that is due. It is put into a batch of its own, since it is learnt here.
-    fn publish(&mut self, alloc: Global, origin: &Origin) -> Result<(), NoMemory>
+    fn publish(&mut self, alloc: Global, origin: &Origin<'p>) -> Result<(), NoMemory>
         requires at { IsClosing origin.now self.old }
         requires none { self.old.control.kept ≡ None }
 
@@ -165,7 +164,7 @@ impl Closing {
     }
 
     /// Handles every packet that is left, and learns every version.
-    fn handle_all(&mut self, origin: &Origin) -> Result<(), NoMemory>
+    fn handle_all(&mut self, origin: &Origin<'p>) -> Result<(), NoMemory>
         requires at { IsClosing origin.now self.old }
         requires accepted { AreAccepted origin.now.front.value (items_in_all origin.now) }
         requires applied { IsApplied origin.now self.old }
@@ -178,7 +177,7 @@ impl Closing {
     }
 
     /// Learns every version whose floor is met, and handles the next packet; tells whether there was one.
-    fn handle_next(&mut self, origin: &Origin) -> Result<bool, NoMemory>
+    fn handle_next(&mut self, origin: &Origin<'p>) -> Result<bool, NoMemory>
         requires at { IsClosing origin.now self.old }
         requires accepted { AreAccepted origin.now.front.value (items_in_all origin.now) }
         requires applied { IsApplied origin.now self.old }
@@ -199,7 +198,7 @@ impl Closing {
     }
 
     /// Learns versions as long as their floors are met.
-    fn learn_met(&mut self, origin: &Origin) -> Result<(), NoMemory>
+    fn learn_met(&mut self, origin: &Origin<'p>) -> Result<(), NoMemory>
         requires at { IsClosing origin.now self.old }
 
         ensures at { IsClosing origin.now self.new }
@@ -213,7 +212,7 @@ impl Closing {
 
     /// Learns the next version, or lets a batch go that is learnt whole; tells whether there was either. A
     /// version waits where its floor isn't met.
-    fn learn_next(&mut self, origin: &Origin) -> Result<bool, NoMemory>
+    fn learn_next(&mut self, origin: &Origin<'p>) -> Result<bool, NoMemory>
         requires at { IsClosing origin.now self.old }
 
         ensures at { IsClosing origin.now self.new }
@@ -237,7 +236,7 @@ impl Closing {
     }
 
     /// Learns the first version of the batch in hand.
-    fn learn_first(&mut self, origin: &Origin) -> Result<(), NoMemory>
+    fn learn_first(&mut self, origin: &Origin<'p>) -> Result<(), NoMemory>
         requires at { IsClosing origin.now self.old }
         requires ready { IsReady self.old.state.done self.old.taken }
         requires more { ¬ IsSpent self.old.taken }
@@ -256,7 +255,7 @@ impl Closing {
     }
 
     /// Takes the next batch in hand, where none is.
-    fn look(&mut self, origin: &Origin)
+    fn look(&mut self, origin: &Origin<'p>)
         requires at { IsClosing origin.now self.old }
 
         ensures at { IsClosing origin.now self.new }
@@ -272,7 +271,7 @@ impl Closing {
     }
 
     /// One record again.
-    pub(crate) fn finished(self, origin: &Origin, destination: SliceNo) -> Finished
+    pub(crate) fn finished(self, origin: &Origin<'p>, destination: SliceNo) -> Finished<'p>
         requires at { IsClosing origin.now self }
         requires done { IsDone origin.now self }
         requires accepted { AreAccepted origin.now.front.value (items_in_all origin.now) }

@@ -1,13 +1,13 @@
 //! The end at which commands and packets are numbered.
-ghost use Rattle.std.specs.Prelude.{◌≡◌, ◌+◌, ◌<◌, ◌≤◌, ◌^◌, [], ◌∷◌, ◌++◌, length, All, OnOk, OnErr, IfErr, IsOk};
+ghost use Rattle.std.specs.Prelude.{◌≡◌, ◌+◌, ◌<◌, ◌≤◌, ◌^◌, [], length, All, OnOk, OnErr, IfErr, IsOk};
 ghost use Rattle.lane_core.specs.Ends.{sent, sender_lane, full_answers, raised};
 ghost use Rattle.subscriber.specs.Standing.{commands_met};
 ghost use Rattle.control_half.specs.declared.items.CommandItem.{CommandItem};
 
 use control_half::{BoxedCommand, CommandItem};
-use counter_half::DataItem;
+use counter_half::{DataItem, SentPacket};
 use lane_core::{Full, Sender};
-use pc_base::{Packet, SliceNo, Slot};
+use pc_base::{SliceNo, Slot};
 use std::snapshot::Snapshot;
 use std::sync::Wait;
 use subscriber::Subscriber;
@@ -84,16 +84,16 @@ impl FrontEnd {
     }
 
     /// The item of a packet, which takes the next number. It isn't counted before it is `accepted`.
-    pub fn packet_item(&self, line: u64, parked: bool, packet: Packet) -> DataItem
-        ensures made { IsItemOf self.now line parked packet result }
+    pub fn packet_item<'p>(&self, line: u64, packet: SentPacket<'p>) -> DataItem<'p>
+        ensures made { IsItemOf self.now line packet.entry result }
 
         // It may stand among the commands that were accepted, whatever more are accepted later.
         ensures standing { MayStand (commands_met self.now.started.value) (commands_sent self.now) result }
     {
-        let Packet {
+        let SentPacket {
             moment,
             way,
-            octets,
+            ip,
             ..
         } = packet;
         DataItem {
@@ -101,12 +101,11 @@ impl FrontEnd {
             number: self.packets,
             floor: self.commands_before,
             line,
-            parked,
-            packet: Packet {
+            packet: SentPacket {
                 number: self.packets,
                 moment,
                 way,
-                octets,
+                ip,
             },
         }
     }

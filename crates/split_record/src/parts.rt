@@ -20,11 +20,11 @@ use std::sync::Wait;
 
 /// What is left of a subscriber's front end and halves after running out of memory. Nothing is lost.
 #[derive(Drop)]
-pub struct RecordParts {
+pub struct RecordParts<'p> {
     pub(crate) alloc: Global,
-    pub(crate) origin: Origin,
+    pub(crate) origin: Origin<'p>,
     pub(crate) destination: SliceNo,
-    pub(crate) stage: Stage,
+    pub(crate) stage: Stage<'p>,
     ghost accepted: { AreAccepted origin.front.value (items_in_all origin) } by { accepted_prop },
     ghost whole: { IsAt origin stage },
     ghost bound: { destination ≡ origin.front.value.destination },
@@ -32,31 +32,31 @@ pub struct RecordParts {
 
 /// How far the halves are together.
 #[derive(Drop)]
-pub(crate) enum Stage {
+pub(crate) enum Stage<'p> {
     /// Both lanes are open.
-    Open(OpenHalves),
+    Open(OpenHalves<'p>),
     /// The lane of commands is closed.
-    Halfway(Halfway),
+    Halfway(Halfway<'p>),
     /// Both are.
-    Closing(Closing),
+    Closing(Closing<'p>),
 }
 
 /// The halves with both lanes open.
 #[derive(Drop)]
-pub(crate) struct OpenHalves {
+pub(crate) struct OpenHalves<'p> {
     pub(crate) lane: Sender<CommandItem>,
     pub(crate) control: ControlEnd,
-    pub(crate) data_half: DataRest,
-    pub(crate) left: Vec<DataItem>,
+    pub(crate) data_half: DataRest<'p>,
+    pub(crate) left: Vec<DataItem<'p>>,
 }
 
 /// The halves with the lane of versions open.
 #[derive(Drop)]
-pub(crate) struct Halfway {
+pub(crate) struct Halfway<'p> {
     pub(crate) control: Commanded,
     pub(crate) versions: Sender<Batch<Version>>,
-    pub(crate) data_half: DataRest,
-    pub(crate) left: Vec<DataItem>,
+    pub(crate) data_half: DataRest<'p>,
+    pub(crate) left: Vec<DataItem<'p>>,
 }
 
 /// What a control half has done, and the commands that it has still to do.
@@ -72,19 +72,19 @@ pub(crate) struct Commanded {
     pub(crate) rest: Vec<CommandItem>,
 }
 
-impl RecordParts {
+impl<'p> RecordParts<'p> {
     ghost use Rattle.split_record.specs.Parts.{IsOf};
 
     pub(crate) fn new(
         alloc: Global,
         front: FrontEnd,
         control: ControlHalf,
-        data_half: DataHalf,
-        left: Vec<DataItem>,
-    ) -> RecordParts
+        data_half: DataHalf<'p>,
+        left: Vec<DataItem<'p>>,
+    ) -> RecordParts<'p>
         requires one { AreOfOneSplit front control data_half }
         requires accepted { AreAccepted front (handled_by data_half ++ left.items) }
-        ensures { IsOf result front data_half left.items }
+        ensures { IsOf result front data_half.entry left.entry.items }
     {
         let origin = Origin::of(&front, &data_half, &left);
         let FrontEnd {
@@ -106,12 +106,12 @@ impl RecordParts {
     }
 
     /// Goes on where memory ran out.
-    pub fn again<R: Wait>(self, rt: &R) -> Result<Finished, RecordParts>
-        ensures finished { IfOk result (λ made. Finishes (start_in self.origin) (commands_in self.origin)
-            (items_in_all self.origin) (bound_for self.origin) made) }
-        ensures placed { IfOk result (λ made. places_in made.packets.items ≡ places_in_all self.origin) }
-        ensures met { IfOk result (λ made. LeftMeetAll self.origin made.packets.items) }
-        ensures parts { IfErr result (λ parts. parts.origin ≡ self.origin) }
+    pub fn again<R: Wait>(self, rt: &R) -> Result<Finished<'p>, RecordParts<'p>>
+        ensures finished { IfOk result (λ made. Finishes (start_in self.entry.origin) (commands_in self.entry.origin)
+            (items_in_all self.entry.origin) (bound_for self.entry.origin) made) }
+        ensures placed { IfOk result (λ made. places_in made.packets.items ≡ places_in_all self.entry.origin) }
+        ensures met { IfOk result (λ made. LeftMeetAll self.entry.origin made.packets.items) }
+        ensures parts { IfErr result (λ parts. parts.origin ≡ self.entry.origin) }
     {
         let RecordParts {
             alloc,
@@ -140,7 +140,12 @@ impl RecordParts {
 }
 
 /// Both lanes are closed. Out of memory, no lane is closed in part.
-fn closed<R: Wait>(rt: &R, alloc: Global, origin: &Origin, stage: Stage) -> Result<Closing, Stage>
+fn closed<'p, R: Wait>(
+    rt: &R,
+    alloc: Global,
+    origin: &Origin<'p>,
+    stage: Stage<'p>,
+) -> Result<Closing<'p>, Stage<'p>>
     requires at { IsAt origin.now stage }
     ensures ok { IfOk result (λ closing. IsClosing origin.now closing) }
     ensures err { IfErr result (λ back. IsAt origin.now back) }
@@ -156,12 +161,12 @@ fn closed<R: Wait>(rt: &R, alloc: Global, origin: &Origin, stage: Stage) -> Resu
 }
 
 /// The lane of versions is closed behind that of commands.
-fn closed_behind<R: Wait>(
+fn closed_behind<'p, R: Wait>(
     rt: &R,
     alloc: Global,
-    origin: &Origin,
-    halfway: Halfway,
-) -> Result<Closing, Stage>
+    origin: &Origin<'p>,
+    halfway: Halfway<'p>,
+) -> Result<Closing<'p>, Stage<'p>>
     requires at { IsHalfway origin.now halfway }
     ensures ok { IfOk result (λ closing. IsClosing origin.now closing) }
     ensures err { IfErr result (λ back. IsAt origin.now back) }
@@ -172,9 +177,14 @@ fn closed_behind<R: Wait>(
     }
 }
 
-impl OpenHalves {
+impl<'p> OpenHalves<'p> {
     /// The lane of commands is closed. Out of memory, all is as before.
-    fn closed<R: Wait>(self, rt: &R, alloc: Global, origin: &Origin) -> Result<Halfway, OpenHalves>
+    fn closed<R: Wait>(
+        self,
+        rt: &R,
+        alloc: Global,
+        origin: &Origin<'p>,
+    ) -> Result<Halfway<'p>, OpenHalves<'p>>
         requires at { IsOpen origin.now self }
         ensures ok { IfOk result (λ half. IsHalfway origin.now half) }
         ensures err { IfErr result (λ back. IsOpen origin.now back) }
@@ -227,9 +237,14 @@ impl OpenHalves {
     }
 }
 
-impl Halfway {
+impl<'p> Halfway<'p> {
     /// The lane of versions is closed too. Out of memory, all is as before.
-    fn closed<R: Wait>(self, rt: &R, alloc: Global, origin: &Origin) -> Result<Closing, Halfway>
+    fn closed<R: Wait>(
+        self,
+        rt: &R,
+        alloc: Global,
+        origin: &Origin<'p>,
+    ) -> Result<Closing<'p>, Halfway<'p>>
         requires at { IsHalfway origin.now self }
         ensures ok { IfOk result (λ closing. IsClosing origin.now closing) }
         ensures err { IfErr result (λ back. IsHalfway origin.now back) }

@@ -13,12 +13,12 @@ use subscriber::Subscriber;
 
 /// Splits a subscriber into its front end and its two halves, with lanes of this room for commands and
 /// for versions. When out of memory it comes back.
-pub fn split(
+pub fn split<'p>(
     alloc: Global,
     subscriber: Subscriber,
     room: u32,
     hop: u64,
-) -> Result<(FrontEnd, ControlHalf, DataHalf), Subscriber>
+) -> Result<(FrontEnd, ControlHalf, DataHalf<'p>), Subscriber>
     requires room { (1 ≤ room) × (room ≤ 256) }
     requires few { HasRoom subscriber }
     ensures ok { IfOk result (λ halves. IsSplit subscriber room hop halves.0 halves.1 halves.2) }

@@ -12,11 +12,10 @@ use Rattle.charging_book.specs.Happenings.{Happening}
 use Rattle.charging_book.specs.Posted.{GoesFar, AllMayBePosted}
 use Rattle.bearer_state.specs.declared.version.ActiveBearer.{ActiveBearer}
 use Rattle.bearer_state.specs.Version.{VersionState, IsVersion}
-use Rattle.packet_steps.specs.declared.meters.Meters.{Meters}
 use Rattle.packet_steps.specs.Rows.{HeldRow}
 use Rattle.packet_steps.specs.Messages.{gpdu}
 use Rattle.packet_steps.specs.Change.{bearer_of, waits, marks, markers}
-use Rattle.packet_steps.specs.Meters.{learnt_meters}
+use Rattle.packet_steps.specs.Meters.{MetersState, learnt_meters}
 use Rattle.packet_steps.specs.Standing.{CountersState}
 use Rattle.packet_steps.specs.Running.{left_for, charge_of, Brought, with_fate, brought_through, brought_to, brought_at, brought_with, brought, Advances}
 use Rattle.packet_steps.proofs.BearerLemmas.{find_found}
@@ -120,8 +119,8 @@ advance_alike before after old other new next pieces others alike keep ranges ma
     let book : GoesFar other.book next.book happened = subst (GoesFar other.book next.book) (sym bring.charged) also.book in
     record {
       alike = record {
-        meters = subst (λ (m : Meters). AreMetersAlike after.bearers m next.meters) (sym goes.meters)
-            (subst (λ (n : Meters). AreMetersAlike after.bearers (brought before after old).meters n) (sym also.meters)
+        meters = subst (λ (m : MetersState). AreMetersAlike after.bearers m next.meters) (sym goes.meters)
+            (subst (λ (n : MetersState). AreMetersAlike after.bearers (brought before after old).meters n) (sym also.meters)
             bring.meters);
         pieces_are = goes.book.pieces pieces alike.pieces_are may;
         others_are = book.pieces others alike.others_are stay.may;

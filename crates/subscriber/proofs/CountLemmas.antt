@@ -8,7 +8,7 @@ use Rattle.gate_model.specs.Events.{commands_of, packets_of}
 use Rattle.gate_model.specs.SlotPast.{SlotPast, new_slot, commanded, met, happens, behind, past_of}
 use Rattle.bearer_state.specs.Session.{SessionState}
 use Rattle.gate_model.specs.Room.{EventsBoundCounts}
-use Rattle.subscriber.specs.Standing.{SubscriberState, StandsFor, HasRoom, FewEventsLeaveRoom, commands_met}
+use Rattle.subscriber.specs.Standing.{SubscriberState, StandsFor, HasRoom, FewEventsLeaveRoom}
 
 -- each is a command or a packet
 pub all_counted : (events : List Event) → length events ≡ length (commands_of events) + length (packets_of events)
@@ -57,11 +57,6 @@ counts_from past (event.Packet packet ∷ later) = counts_from (met past packet)
 
 pub past_counts : (slot : ℕ) (events : List Event) → (past_of slot events).commands ≡ length (commands_of events)
 past_counts slot events = omega (arith, counts_from (new_slot slot) events)
-
--- so few events that the counts may rise
-pub counts_are_few : (subscriber : SubscriberState) → HasRoom subscriber
-    → commands_met subscriber + subscriber.packets < 2 ^ 52
-counts_are_few subscriber room = room.few
 
 pub events_are_few : (subscriber : SubscriberState) (slot : ℕ) (events : List Event) (taken : ℕ)
     → HasRoom subscriber → StandsFor subscriber slot events taken

@@ -5,9 +5,8 @@ use Rattle.std.proofs.lemmas.Bool.Decides.{nat_tests}
 use Rattle.rate_policer.specs.Buckets.{BucketState, last_of}
 use Rattle.bearer_state.specs.declared.version.ActiveBearer.{ActiveBearer}
 use Rattle.bearer_state.specs.Qos.{is_guaranteed}
-use Rattle.packet_steps.specs.declared.meters.Meters.{Meters}
 use Rattle.packet_steps.specs.Past.{Past, moment_of}
-use Rattle.packet_steps.specs.Meters.{own_meter, MetersStand}
+use Rattle.packet_steps.specs.Meters.{MetersState, own_meter, MetersStand}
 use Rattle.packet_steps.specs.Parts.{own_buckets, buckets_in, first_fit, own_fit, buckets_fit}
 use Rattle.gate_model.proofs.Members.{In, contains_in}
 
@@ -18,24 +17,24 @@ pub le_test : (a b : ℕ) → a ≤ b → nat_le a b ≡ true
 le_test a b least = grind (arith, nat_tests)
 
 -- the own meters of bearers with a guaranteed rate have their rates, and were asked by a moment
-record IsOwn (m : Meters) (most : ℕ) (bearer : ActiveBearer) : Type 0 where
+record IsOwn (m : MetersState) (most : ℕ) (bearer : ActiveBearer) : Type 0 where
   up : (own_meter m bearer.index).up.rate ≡ bearer.qos.mbr_up
   down : (own_meter m bearer.index).down.rate ≡ bearer.qos.mbr_down
   up_asked : (own_meter m bearer.index).up.last ≤ most
   down_asked : (own_meter m bearer.index).down.last ≤ most
 
-abbrev AreOwn : Meters → ℕ → List ActiveBearer → Type 0
+abbrev AreOwn : MetersState → ℕ → List ActiveBearer → Type 0
 AreOwn m most bearers = (b : ActiveBearer) → In b bearers → is_guaranteed b.qos.qci ≡ true → IsOwn m most b
 
-abbrev taken_by : Bool → Meters → ActiveBearer → List BucketState
+abbrev taken_by : Bool → MetersState → ActiveBearer → List BucketState
 taken_by g m b = cond g ((own_meter m b.index).up ∷ (own_meter m b.index).down ∷ []) []
 
-abbrev fit_by : Bool → Meters → ActiveBearer → List ActiveBearer → Bool
+abbrev fit_by : Bool → MetersState → ActiveBearer → List ActiveBearer → Bool
 fit_by g m b bearers =
     let buckets = taken_by g m b ++ flat_map (own_buckets m) bearers in
     cond g (first_fit b.qos.mbr_up b.qos.mbr_down buckets && own_fit bearers (drop 2 buckets)) (own_fit bearers buckets)
 
-one_fits : (g : Bool) (m : Meters) (most : ℕ) (b : ActiveBearer) (bearers : List ActiveBearer)
+one_fits : (g : Bool) (m : MetersState) (most : ℕ) (b : ActiveBearer) (bearers : List ActiveBearer)
     → is_guaranteed b.qos.qci ≡ g → (g ≡ true → IsOwn m most b)
     → own_fit bearers (flat_map (own_buckets m) bearers) ≡ true
     → own_fit (b ∷ bearers) (flat_map (own_buckets m) (b ∷ bearers)) ≡ true
@@ -50,7 +49,7 @@ one_fits true m most b bearers is own rest =
     (eq-eqb down.rate b.qos.mbr_down known.down)) rest
 one_fits false m most b bearers is own rest = ap (λ g. fit_by g m b bearers) is ∙ rest
 
-own_fits : (m : Meters) (most : ℕ) (bearers : List ActiveBearer) → AreOwn m most bearers
+own_fits : (m : MetersState) (most : ℕ) (bearers : List ActiveBearer) → AreOwn m most bearers
     → own_fit bearers (flat_map (own_buckets m) bearers) ≡ true
 own_fits m most [] own = refl
 own_fits m most (b ∷ bearers) own =
@@ -60,7 +59,7 @@ own_fits m most (b ∷ bearers) own =
 abbrev asked_by : ℕ → BucketState → Bool
 asked_by most b = nat_le (last_of b) most
 
-one_asked : (g : Bool) (m : Meters) (most : ℕ) (b : ActiveBearer) (rest : List BucketState)
+one_asked : (g : Bool) (m : MetersState) (most : ℕ) (b : ActiveBearer) (rest : List BucketState)
     → (g ≡ true → IsOwn m most b) → list_all (asked_by most) rest ≡ true
     → list_all (asked_by most) (taken_by g m b ++ rest) ≡ true
 one_asked true m most b rest own behind =
@@ -71,18 +70,18 @@ one_asked true m most b rest own behind =
     (both_are (asked_by most down) (list_all (asked_by most) rest) (le_test down.last most known.down_asked) behind)
 one_asked false m most b rest own behind = behind
 
-own_asked : (m : Meters) (most : ℕ) (bearers : List ActiveBearer) → AreOwn m most bearers
+own_asked : (m : MetersState) (most : ℕ) (bearers : List ActiveBearer) → AreOwn m most bearers
     → list_all (asked_by most) (flat_map (own_buckets m) bearers) ≡ true
 own_asked m most [] own = refl
 own_asked m most (b ∷ bearers) own =
     one_asked (is_guaranteed b.qos.qci) m most b (flat_map (own_buckets m) bearers)
     (λ guaranteed. own b (inl refl) guaranteed) (own_asked m most bearers (λ c there. own c (inr there)))
 
-pub record BucketsFit (m : Meters) (past : Past) : Type 0 where
+pub record BucketsFit (m : MetersState) (past : Past) : Type 0 where
   pub rates : buckets_fit past.version (buckets_in past.version.bearers m) ≡ true
   pub asked : list_all (asked_by (moment_of past)) (buckets_in past.version.bearers m) ≡ true
 
-pub buckets_stand : (m : Meters) (past : Past) → MetersStand m past → BucketsFit m past
+pub buckets_stand : (m : MetersState) (past : Past) → MetersStand m past → BucketsFit m past
 buckets_stand m past stands =
     let version = past.version in
     let most = moment_of past in

@@ -10,8 +10,7 @@ use Rattle.bearer_state.specs.Qos.{is_guaranteed}
 use Rattle.bearer_state.specs.Session.{SessionState, IsSession}
 use Rattle.bearer_state.specs.Version.{actives}
 use Rattle.control_steps.specs.Table.{controlled}
-use Rattle.packet_steps.specs.declared.meters.Meters.{Meters}
-use Rattle.packet_steps.specs.Meters.{own_meter}
+use Rattle.packet_steps.specs.Meters.{MetersState, own_meter}
 use Rattle.packet_steps.specs.Parts.{own_buckets}
 use Rattle.gate_model.proofs.Members.{In, at_each, of_map, AreDistinct, other_if, in_contains}
 use Rattle.gate_model.proofs.SessionSteps.{lives_in, AreLived, session_goes}
@@ -44,14 +43,14 @@ sessions_keep session command number next is are b c b_there c_there lives =
     (same.index, same.qos)
 
 -- meters that gave the same buckets
-abbrev taken_by : Bool → Meters → ActiveBearer → List BucketState
+abbrev taken_by : Bool → MetersState → ActiveBearer → List BucketState
 taken_by g m b = cond g ((own_meter m b.index).up ∷ (own_meter m b.index).down ∷ []) []
 
-record First (m n : Meters) (b : ActiveBearer) (xs ys : List BucketState) (g : Bool) : Type 0 where
+record First (m n : MetersState) (b : ActiveBearer) (xs ys : List BucketState) (g : Bool) : Type 0 where
   rest : xs ≡ ys
   meter : g ≡ true → own_meter m b.index ≡ own_meter n b.index
 
-first_taken : (g : Bool) (m n : Meters) (b : ActiveBearer) (xs ys : List BucketState)
+first_taken : (g : Bool) (m n : MetersState) (b : ActiveBearer) (xs ys : List BucketState)
     → taken_by g m b ++ xs ≡ taken_by g n b ++ ys → First m n b xs ys g
 first_taken true m n b xs ys same =
     let ups : (own_meter m b.index).up ≡ (own_meter n b.index).up = cc in
@@ -60,7 +59,7 @@ first_taken true m n b xs ys same =
     record { rest = behind; meter = λ is. λ i. record { up = ups i; down = downs i } }
 first_taken false m n b xs ys same = record { rest = same; meter = λ is. absurd (false≢true is) }
 
-all_taken : (m n : Meters) (bearers : List ActiveBearer)
+all_taken : (m n : MetersState) (bearers : List ActiveBearer)
     → flat_map (own_buckets m) bearers ≡ flat_map (own_buckets n) bearers
     → (c : ActiveBearer) → In c bearers → is_guaranteed c.qos.qci ≡ true → own_meter m c.index ≡ own_meter n c.index
 all_taken m n [] same c there guaranteed = absurd there

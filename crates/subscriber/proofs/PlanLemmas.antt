@@ -14,7 +14,7 @@ use Rattle.ipv4_packet.specs.Fields.{source_of}
 use Rattle.tft_match.specs.Chosen.{chosen}
 use Rattle.bearer_state.specs.declared.version.ActiveBearer.{ActiveBearer}
 use Rattle.bearer_state.specs.Version.{VersionState, IsVersion, bearer_at}
-use Rattle.packet_steps.specs.declared.meters.Meters.{Meters}
+use Rattle.packet_steps.specs.Meters.{MetersState}
 use Rattle.packet_steps.specs.declared.plan.Plan.{Plan}
 use Rattle.packet_steps.specs.declared.plan.Plan.TheVariants as plan
 use Rattle.packet_steps.specs.Rows.{HeldRow}
@@ -28,7 +28,7 @@ use Rattle.subscriber.proofs.PieceLemmas.{pieces_stay_alike}
 use Rattle.subscriber.proofs.MeterLemmas.{left_alike, put_alike}
 
 -- both plan the same
-up_alike : (version : VersionState) (m n : Meters) (at : ℕ) (octets : List ℕ) (found : Option ActiveBearer)
+up_alike : (version : VersionState) (m n : MetersState) (at : ℕ) (octets : List ℕ) (found : Option ActiveBearer)
     → AreMetersAlike version.bearers m n → ((b : ActiveBearer) → found ≡ Some b → In b version.bearers)
     → planned_up version m at octets found ≡ planned_up version n at octets found
 up_alike version m n at octets None alike among = refl
@@ -84,7 +84,7 @@ through_of : (version : VersionState) (b : ActiveBearer) (len : ℕ) (left : Boo
 through_of version b len (false, bucket) there = there
 through_of version b len (true, bucket) there = there
 
-up_of : (version : VersionState) (m : Meters) (at : ℕ) (octets : List ℕ) (found : Option ActiveBearer)
+up_of : (version : VersionState) (m : MetersState) (at : ℕ) (octets : List ℕ) (found : Option ActiveBearer)
     → ((b : ActiveBearer) → found ≡ Some b → In b version.bearers)
     → IsOfBearer version (planned_up version m at octets found)
 up_of version m at octets None among = tt
@@ -140,7 +140,7 @@ plan_of version old packet =
     ]
 
 -- the buckets behind it are alike
-behind_alike : (version : VersionState) (m n : Meters) (p : Plan) → IsVersion version → IsOfBearer version p
+behind_alike : (version : VersionState) (m n : MetersState) (p : Plan) → IsVersion version → IsOfBearer version p
     → AreMetersAlike version.bearers m n → AreMetersAlike version.bearers (meters_behind p m) (meters_behind p n)
 behind_alike version m n plan.NoBearer ranges of alike = alike
 behind_alike version m n plan.Spoof ranges of alike = alike
@@ -165,8 +165,8 @@ goes_alike version old other new next pieces others packet ranges alike may goes
     let stay = pieces_stay_alike pieces others happened alike.pieces_alike may in
     record {
       alike = record {
-        meters = subst (λ (m : Meters). AreMetersAlike version.bearers m next.meters) (sym goes.meters)
-            (subst (λ (n : Meters). AreMetersAlike version.bearers (meters_behind p old.meters) n) (sym also.meters)
+        meters = subst (λ (m : MetersState). AreMetersAlike version.bearers m next.meters) (sym goes.meters)
+            (subst (λ (n : MetersState). AreMetersAlike version.bearers (meters_behind p old.meters) n) (sym also.meters)
             (behind_alike version old.meters other.meters p ranges (plan_of version old packet) alike.meters));
         pieces_are = goes.book.pieces pieces alike.pieces_are may;
         others_are = also.book.pieces others alike.others_are stay.may;

@@ -15,7 +15,7 @@ use Rattle.gate_model.specs.Events.{commands_of}
 use Rattle.gate_model.specs.SlotPast.{SlotPast, past_of, session_after, version_after, next_session, next_version}
 use Rattle.gate_model.specs.Versions.{controlled_by, SessionsAreOfCommands, VersionsAreOfCommands, CommandsAreLearnt, PacketsAreJudged}
 use Rattle.gate_model.specs.Few.{FewCommandsFollow}
-use Rattle.subscriber.specs.Standing.{SubscriberState, StandsFor, StandsForPackets, HasRoom}
+use Rattle.subscriber.specs.Standing.{SubscriberState, StandsFor, HasRoom}
 use Rattle.subscriber.proofs.CountLemmas.{events_are_few, past_counts, commands_more, packets_stay, packets_more, commands_same}
 
 -- the version that a command leaves
@@ -115,20 +115,3 @@ learns follow old slot events taken command stood before after session room stan
       next = next;
       follows = subst (λ (v : VersionState). counters.Follows packets v) (sym next) (follow slot events command few);
     }
-
--- with its session put back a subscriber represents what it represented
-abbrev put_back : SessionState → SubscriberState → SubscriberState
-put_back session subscriber = record subscriber { session = session }
-
-pub still_stands : (old new : SubscriberState) (slot : ℕ) (events : List Event) (taken : ℕ)
-    → StandsFor old slot events taken → new ≡ record old { session = new.session }
-    → StandsForPackets new slot events taken
-still_stands old new slot events taken stands kept =
-    subst (λ (s : SubscriberState). StandsFor s slot events taken)
-    (sym (ap (put_back (session_after slot events)) kept)) (record {
-      session = refl;
-      version = stands.version;
-      counters = stands.counters;
-      commands = stands.commands;
-      packets = stands.packets;
-    })

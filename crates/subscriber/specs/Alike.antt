@@ -15,8 +15,7 @@ use Rattle.bearer_state.specs.Session.{SessionState, IsSession}
 use Rattle.bearer_state.specs.Version.{VersionState, IsVersion, version_of}
 use Rattle.control_steps.specs.declared.command.CommandKind.{CommandKind}
 use Rattle.control_steps.specs.Table.{controlled}
-use Rattle.packet_steps.specs.declared.meters.Meters.{Meters}
-use Rattle.packet_steps.specs.Meters.{own_meter}
+use Rattle.packet_steps.specs.Meters.{MetersState, own_meter}
 use Rattle.packet_steps.specs.Standing.{CountersState}
 use Rattle.packet_steps.specs.Parts.{PartsState, IsMadeOf, buckets_in}
 use Rattle.packet_steps.specs.Running.{planned, charged_by, GoesOn, brought, Advances}
@@ -45,7 +44,7 @@ AlikePiecesStayAlike = (pieces others : List Piece) (happened : List Happening) 
     → AllMayBePosted pieces happened → StayAlike pieces others happened
 
 -- buckets that police bearers of a list are the same
-pub record AreMetersAlike (bearers : List ActiveBearer) (meters others : Meters) : Type 0 where
+pub record AreMetersAlike (bearers : List ActiveBearer) (meters others : MetersState) : Type 0 where
   pub sized : length meters.own ≡ 11
   pub others_sized : length others.own ≡ 11
   pub shared : meters.shared ≡ others.shared

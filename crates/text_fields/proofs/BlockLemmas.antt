@@ -69,7 +69,7 @@ decoded_to values octets block at from k n to upto twice double whole sum within
     let joined : packed (take upto values) ≡ packed (take from values) ++ packed (take n (drop from values)) =
     ap (λ m. packed (take m values)) both ∙ ap packed (take-add from n values)
     ∙ packed-append at (take from values) (take n (drop from values)) half in
-    put ∙ ap (λ front. front ++ block) is ∙ ap (λ back. packed (take from values) ++ back) more ∙ sym joined
+    put ∙ ap (λ prefix. prefix ++ block) is ∙ ap (λ back. packed (take from values) ++ back) more ∙ sym joined
 
 pub length-put : {X : Type 0} (xs ys : List X) (at k : ℕ) → length ys ≡ k → at + k ≤ length xs
     → length (put_mid at k xs ys) ≡ length xs
@@ -125,19 +125,19 @@ split_at values at =
 pub covered : (values : List ℕ) (at done more : ℕ) → done ≡ at + more
     → (are_small (take done values) && are_small (drop at values)) ≡ are_small values
 covered values at done more sum =
-    let front = sym (small_to values at more done sum) in
+    let prefix = sym (small_to values at more done sum) in
     let back = split_at (drop at values) more in
-    rw (front, split_at values at, back) (and_covers (are_small (take at values)) (are_small (take more (drop at values)))
+    rw (prefix, split_at values at, back) (and_covers (are_small (take at values)) (are_small (take more (drop at values)))
     (are_small (drop more (drop at values))))
 
 -- two parts of a list written one after the other
-pub two_halves : {X : Type 0} (xs front back : List X) (n k : ℕ) → length front ≡ n → length xs ≡ n + length back
-    → k ≡ length back → put_mid n k (front ++ drop n xs) back ≡ front ++ back
-two_halves xs front back n k long whole rest =
-    let first : take n (front ++ drop n xs) ≡ front = take_at front (drop n xs) n long in
-    let left : drop n (front ++ drop n xs) ≡ drop n xs = drop_at front (drop n xs) n long in
+pub two_halves : {X : Type 0} (xs prefix back : List X) (n k : ℕ) → length prefix ≡ n → length xs ≡ n + length back
+    → k ≡ length back → put_mid n k (prefix ++ drop n xs) back ≡ prefix ++ back
+two_halves xs prefix back n k long whole rest =
+    let first : take n (prefix ++ drop n xs) ≡ prefix = take_at prefix (drop n xs) n long in
+    let left : drop n (prefix ++ drop n xs) ≡ drop n xs = drop_at prefix (drop n xs) n long in
     let none : drop k (drop n xs) ≡ [] = drop_all k (drop n xs) (omega (arith, length-drop n xs)) in
-    rw (first, left, none) (ap (λ behind. front ++ behind) (append-nil back))
+    rw (first, left, none) (ap (λ behind. prefix ++ behind) (append-nil back))
 
 pub small_on : (values block : List ℕ) (w : Bool) (at k to : ℕ) → to ≡ at + k → w ≡ are_small (take at values)
     → block ≡ take k (drop at values) → (w && are_small block) ≡ are_small (take to values)
@@ -157,20 +157,20 @@ values_apart : (digits : List ℕ) (n : ℕ) → values_of digits ≡ values_of 
 values_apart digits n =
     ap values_of (sym (take-append-drop n digits)) ∙ map-append value_of (take n digits) (drop n digits)
 
-pub two_packed : (k n : ℕ) (digits octets front back : List ℕ) → n ≡ 2 * k → length digits ≡ 2 * n
+pub two_packed : (k n : ℕ) (digits octets prefix back : List ℕ) → n ≡ 2 * k → length digits ≡ 2 * n
     → length octets ≡ 2 * k
-    → front ≡ packed (values_of (take n digits)) → back ≡ packed (values_of (drop n digits))
-    → put_mid k (length (front ++ drop k octets) - k) (front ++ drop k octets) back ≡ packed (values_of digits)
-two_packed k n digits octets front back double long room first second =
+    → prefix ≡ packed (values_of (take n digits)) → back ≡ packed (values_of (drop n digits))
+    → put_mid k (length (prefix ++ drop k octets) - k) (prefix ++ drop k octets) back ≡ packed (values_of digits)
+two_packed k n digits octets prefix back double long room first second =
     let one : length (values_of (take n digits)) ≡ 2 * k =
     length-map (take n digits) value_of ∙ length-take-le n digits (omega arith) ∙ double in
     let two : length (values_of (drop n digits)) ≡ 2 * k =
     length-map (drop n digits) value_of ∙ length-drop n digits ∙ omega arith in
-    let front_long : length front ≡ k = ap length first ∙ length-packed k (values_of (take n digits)) one in
+    let prefix_long : length prefix ≡ k = ap length first ∙ length-packed k (values_of (take n digits)) one in
     let back_long : length back ≡ k = ap length second ∙ length-packed k (values_of (drop n digits)) two in
-    let rest : length (front ++ drop k octets) - k ≡ length back =
-    omega (arith, length-append front (drop k octets), length-drop k octets) in
-    two_halves octets front back k (length (front ++ drop k octets) - k) front_long (omega arith) rest
+    let rest : length (prefix ++ drop k octets) - k ≡ length back =
+    omega (arith, length-append prefix (drop k octets), length-drop k octets) in
+    two_halves octets prefix back k (length (prefix ++ drop k octets) - k) prefix_long (omega arith) rest
     ∙ ap (λ x. x ++ back) first ∙ ap (λ x. packed (values_of (take n digits)) ++ x) second
     ∙ sym (ap packed (values_apart digits n)
     ∙ packed-append k (values_of (take n digits)) (values_of (drop n digits)) one)
@@ -186,10 +186,10 @@ small_two digits w n =
 pub block_values : (digits first second : List ℕ) → length digits ≡ 32 → first ≡ values_of (take 16 (take 16 digits))
     → second ≡ values_of (take 16 (drop 16 digits)) → first ++ second ≡ values_of digits
 block_values digits first second long one two =
-    let front : take 16 (take 16 digits) ≡ take 16 digits = take_less 16 16 digits (omega arith) in
+    let prefix : take 16 (take 16 digits) ≡ take 16 digits = take_less 16 16 digits (omega arith) in
     let back : take 16 (drop 16 digits) ≡ drop 16 digits =
     take_all 16 (drop 16 digits) (omega (arith, length-drop 16 digits)) in
-    ap (λ x. x ++ second) (one ∙ ap values_of front)
+    ap (λ x. x ++ second) (one ∙ ap values_of prefix)
     ∙ ap (λ x. values_of (take 16 digits) ++ x) (two ∙ ap values_of back)
     ∙ sym (values_apart digits 16)
 

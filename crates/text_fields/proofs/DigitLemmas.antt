@@ -7,7 +7,7 @@ use Rattle.std.specs.Str.Parse.{digits_value}
 use Rattle.std.proofs.lemmas.Bool.Decides.{nat_tests}
 use Rattle.std.proofs.lemmas.Int.Digits.{digits_value_more}
 use Rattle.std.proofs.lemmas.Str.Parse.{IsNumeralModel, numerals_by_value, digits_value-take-le, digit_at}
-use Rattle.std.proofs.lemmas.Bool.{cases_eq, cases_lt, and_from}
+use Rattle.std.proofs.lemmas.Bool.{cases_eq, and_from}
 use Rattle.std.proofs.lemmas.List.Folds.{list_all_more}
 use Rattle.std.proofs.Math.Nat.{pow-suc, pow-le-pow_right}
 use Rattle.std.proofs.lemmas.Fmt.{decimal_is_IsNumeral, decimal_nonempty, first_decimal, decimal_digit, decimal-digits_value}
@@ -46,13 +46,6 @@ is_digit octet fits small =
     let less : (octet + 208) % 256 ≡ octet - 48 = omega arith in
     let digit : digit_value octet ≡ octet - 48 = grind (arith, nat_tests) in
     (grind (arith, nat_tests), digit ∙ sym less)
-
-pub no_digit : (octet : ℕ) → octet < 256 → 9 < (octet + 208) % 256 → is_ascii_digit octet ≡ false
-no_digit octet fits large =
-    elim (cases_lt octet 48) [
-      | inl below ↦ grind (arith, nat_tests)
-      | inr above ↦ let high : 57 < octet = omega arith in grind (arith, nat_tests)
-    ]
 
 -- one digit more of a short text
 pub record Counted (text : List ℕ) (number i : ℕ) : Type 0 where

@@ -95,7 +95,7 @@ encoded_to octets digits block at from k n to upto twice double sum both within 
     ap length more ∙ length-encode_with lower_digits (take k (drop at octets)) ∙ omega arith in
     let put : take to (put_mid from n digits block) ≡ take from digits ++ block =
     take-put_mid from n digits block to (omega arith) (omega arith) in
-    put ∙ ap (λ front. front ++ block) is ∙ ap (λ back. encode_lower (take at octets) ++ back) more
+    put ∙ ap (λ prefix. prefix ++ block) is ∙ ap (λ back. encode_lower (take at octets) ++ back) more
     ∙ sym (ap (λ m. encode_lower (take m octets)) both ∙ ap encode_lower (take-add at k octets)
     ∙ encode-append (take at octets) (take k (drop at octets)))
 
@@ -116,27 +116,27 @@ encoded_last octets digits block at from k n done twice double sum less whole is
     ∙ ap encode_lower (take_all (length octets) octets (omega arith))
 
 -- two equal parts
-pub two_encoded : (k n : ℕ) (octets digits front back : List ℕ) → n ≡ 2 * k → length octets ≡ 2 * k
+pub two_encoded : (k n : ℕ) (octets digits prefix back : List ℕ) → n ≡ 2 * k → length octets ≡ 2 * k
     → length digits ≡ 2 * n
-    → front ≡ encode_lower (take k octets) → back ≡ encode_lower (drop k octets)
-    → put_mid n (length (front ++ drop n digits) - n) (front ++ drop n digits) back ≡ encode_lower octets
-two_encoded k n octets digits front back double long room first second =
-    let front_long : length front ≡ n =
+    → prefix ≡ encode_lower (take k octets) → back ≡ encode_lower (drop k octets)
+    → put_mid n (length (prefix ++ drop n digits) - n) (prefix ++ drop n digits) back ≡ encode_lower octets
+two_encoded k n octets digits prefix back double long room first second =
+    let prefix_long : length prefix ≡ n =
     ap length first ∙ length-encode_with lower_digits (take k octets)
     ∙ omega (arith, length-take-le k octets (omega arith)) in
     let back_long : length back ≡ n =
     ap length second ∙ length-encode_with lower_digits (drop k octets) ∙ omega (arith, length-drop k octets) in
-    let rest : length (front ++ drop n digits) - n ≡ length back =
-    omega (arith, length-append front (drop n digits), length-drop n digits) in
-    two_halves digits front back n (length (front ++ drop n digits) - n) front_long (omega arith) rest
+    let rest : length (prefix ++ drop n digits) - n ≡ length back =
+    omega (arith, length-append prefix (drop n digits), length-drop n digits) in
+    two_halves digits prefix back n (length (prefix ++ drop n digits) - n) prefix_long (omega arith) rest
     ∙ ap (λ x. x ++ back) first ∙ ap (λ x. encode_lower (take k octets) ++ x) second
     ∙ sym (ap encode_lower (sym (take-append-drop k octets)) ∙ encode-append (take k octets) (drop k octets))
 
 -- ---- the two halves of a block
 
 -- a high digit and its low one by turns
-abbrev pub front_of : List ℕ → List ℕ
-front_of both =
+abbrev pub prefix_of : List ℕ → List ℕ
+prefix_of both =
     pick_l 0 both (0 ∷ 16 ∷ 1 ∷ 17 ∷ 2 ∷ 18 ∷ 3 ∷ 19 ∷ 4 ∷ 20 ∷ 5 ∷ 21 ∷ 6 ∷ 22 ∷ 7 ∷ 23 ∷ [])
 
 abbrev pub back_of : List ℕ → List ℕ
@@ -144,33 +144,33 @@ back_of both =
     pick_l 0 both (8 ∷ 24 ∷ 9 ∷ 25 ∷ 10 ∷ 26 ∷ 11 ∷ 27 ∷ 12 ∷ 28 ∷ 13 ∷ 29 ∷ 14 ∷ 30 ∷ 15 ∷ 31 ∷ [])
 
 pub block_digits : (octets : List ℕ) → length octets ≡ 16
-    → front_of (map high_digit octets ++ map low_digit octets) ++ back_of (map high_digit octets ++ map low_digit octets)
+    → prefix_of (map high_digit octets ++ map low_digit octets) ++ back_of (map high_digit octets ++ map low_digit octets)
     ≡ encode_lower octets
 unfolding encode_with
 block_digits octets long =
-    subst (λ (xs : List ℕ). front_of (map high_digit xs ++ map low_digit xs)
+    subst (λ (xs : List ℕ). prefix_of (map high_digit xs ++ map low_digit xs)
     ++ back_of (map high_digit xs ++ map low_digit xs) ≡ encode_lower xs) (is_listing octets 16 long) refl
 
-pub two_chunks : (digits front back : List ℕ) → length digits ≡ 32 → length front ≡ 16 → length back ≡ 16
-    → put_chunk 16 (put_chunk 0 (take 16 digits) front ++ drop 16 digits) back ≡ front ++ back
-two_chunks digits front back whole first second =
-    let one : put_chunk 0 (take 16 digits) front ≡ front =
-    put_chunk_whole (take 16 digits) front (length-take-le 16 digits (omega arith) ∙ sym first) in
-    let both = front ++ drop 16 digits in
+pub two_chunks : (digits prefix back : List ℕ) → length digits ≡ 32 → length prefix ≡ 16 → length back ≡ 16
+    → put_chunk 16 (put_chunk 0 (take 16 digits) prefix ++ drop 16 digits) back ≡ prefix ++ back
+two_chunks digits prefix back whole first second =
+    let one : put_chunk 0 (take 16 digits) prefix ≡ prefix =
+    put_chunk_whole (take 16 digits) prefix (length-take-le 16 digits (omega arith) ∙ sym first) in
+    let both = prefix ++ drop 16 digits in
     let room : 16 + length back ≤ length both =
-    omega (arith, length-append front (drop 16 digits), length-drop 16 digits) in
-    let start : take 16 both ≡ front = take_at front (drop 16 digits) 16 first in
+    omega (arith, length-append prefix (drop 16 digits), length-drop 16 digits) in
+    let start : take 16 both ≡ prefix = take_at prefix (drop 16 digits) 16 first in
     let left : drop (length back) (drop 16 both) ≡ [] = drop_all (length back) (drop 16 both)
-    (omega (arith, length-drop 16 both, length-append front (drop 16 digits), length-drop 16 digits)) in
+    (omega (arith, length-drop 16 both, length-append prefix (drop 16 digits), length-drop 16 digits)) in
     ap (λ xs. put_chunk 16 (xs ++ drop 16 digits) back) one ∙ put_chunk_is 16 both back room
     ∙ ap (λ xs. xs ++ (back ++ drop (length back) (drop 16 both))) start
-    ∙ ap (λ xs. front ++ (back ++ xs)) left ∙ ap (λ xs. front ++ xs) (append-nil back)
+    ∙ ap (λ xs. prefix ++ (back ++ xs)) left ∙ ap (λ xs. prefix ++ xs) (append-nil back)
 
 -- ---- eight octets
 
 pub eight_digits : (octets : List ℕ) → length octets ≡ 8
-    → front_of (map high_digit (octets ++ replicate 8 0) ++ map low_digit (octets ++ replicate 8 0)) ≡ encode_lower octets
+    → prefix_of (map high_digit (octets ++ replicate 8 0) ++ map low_digit (octets ++ replicate 8 0)) ≡ encode_lower octets
 unfolding encode_with
 eight_digits octets long =
-    subst (λ (xs : List ℕ). front_of (map high_digit (xs ++ replicate 8 0) ++ map low_digit (xs ++ replicate 8 0))
+    subst (λ (xs : List ℕ). prefix_of (map high_digit (xs ++ replicate 8 0) ++ map low_digit (xs ++ replicate 8 0))
     ≡ encode_lower xs) (is_listing octets 8 long) refl

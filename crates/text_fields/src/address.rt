@@ -1,5 +1,5 @@
 //! IPv4 addresses.
-ghost use Rattle.std.specs.Prelude.{◌≡◌, ◌≤◌, IfSome};
+ghost use Rattle.std.specs.Prelude.{◌≡◌};
 ghost use Rattle.text_fields.specs.Number.{number_in};
 ghost use Rattle.text_fields.specs.Address.{address_of};
 

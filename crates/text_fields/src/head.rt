@@ -1,6 +1,6 @@
 //! The head of a line, put together from its last field to its first: each number ends where the next field
 //! begins, so no length is counted, and what is written is never moved.
-ghost use Rattle.std.specs.Prelude.{◌≡◌, ◌+◌, ◌≤◌, ◌<◌, ◌++◌, [], ◌∷◌, length, drop, decimal};
+ghost use Rattle.std.specs.Prelude.{◌≡◌, ◌+◌, ◌≤◌, ◌++◌, [], ◌∷◌, length, drop, decimal};
 ghost use Rattle.hex.specs.Hex.{encode_lower};
 ghost use Rattle.text_fields.specs.Address.{dotted};
 
@@ -48,7 +48,7 @@ impl Head {
         &self.octets[self.from..]
     }
 
-    /// Puts an octet at the front.
+    /// Puts an octet at the start.
     #[inline(always)]
     pub fn put(&mut self, octet: u8)
         requires { length self.old + 1 ≤ HEAD_LEN }
@@ -57,7 +57,7 @@ impl Head {
         self.from = octet_before(&mut self.octets, self.from, octet);
     }
 
-    /// Puts a field at the front: a space and the octets.
+    /// Puts a field at the start: a space and the octets.
     #[inline(always)]
     pub fn put_word(&mut self, word: &[u8])
         requires { length self.old + (length word.now + 1) ≤ HEAD_LEN }
@@ -66,7 +66,7 @@ impl Head {
         self.from = word_before(&mut self.octets, self.from, b' ', word);
     }
 
-    /// Puts a number at the front: a space and its decimal digits, 21 octets at most.
+    /// Puts a number at the start: a space and its decimal digits, 21 octets at most.
     #[inline(always)]
     pub fn put_number(&mut self, number: u64)
         requires { length self.old + 21 ≤ HEAD_LEN }
@@ -76,7 +76,7 @@ impl Head {
         self.from = number_before(&mut self.octets, self.from, b' ', number);
     }
 
-    /// Puts an address at the front: a space and the address dotted, 16 octets at most.
+    /// Puts an address at the start: a space and the address dotted, 16 octets at most.
     #[inline(always)]
     pub fn put_address(&mut self, address: u32)
         requires { length self.old + 16 ≤ HEAD_LEN }
@@ -90,7 +90,7 @@ impl Head {
         self.put_part(b' ', first);
     }
 
-    /// Puts eight octets in hexadecimal at the front, in lower case.
+    /// Puts eight octets in hexadecimal at the start, in lower case.
     #[inline(always)]
     pub fn put_eight(&mut self, octets: [u8; 8])
         requires { length self.old + 16 ≤ HEAD_LEN }
@@ -100,7 +100,7 @@ impl Head {
         self.from = eight_before(&mut self.octets, self.from, octets);
     }
 
-    /// Puts an octet and a number of eight bits at the front, 4 octets at most.
+    /// Puts an octet and a number of eight bits at the start, 4 octets at most.
     #[inline(always)]
     pub fn put_part(&mut self, octet: u8, part: u8)
         requires { length self.old + 4 ≤ HEAD_LEN }

@@ -301,7 +301,7 @@ fn put_digits(buffer: &mut Vec<u8>, at: usize, octets: &[u8]) -> usize
     end
 }
 
-// Writes the octets that digits are at the front; whether all of them are digits.
+// Writes the octets that digits are at the start; whether all of them are digits.
 #[inline(always)]
 fn put_decoded(buffer: &mut Vec<u8>, len: usize, digits: &[u8]) -> bool
     requires digits { length digits.now ≡ 2 * len }
@@ -310,12 +310,12 @@ fn put_decoded(buffer: &mut Vec<u8>, len: usize, digits: &[u8]) -> bool
     ensures value { result ≡ true → decode_of digits.now ≡ Ok (take len buffer.new.items) }
     ensures len { vec_len buffer.new ≡ vec_len buffer.old }
 {
-    decode_front(buffer.as_mut_slice(), len, digits)
+    decode_prefix(buffer.as_mut_slice(), len, digits)
 }
 
 // The same of a slice.
 #[inline(always)]
-fn decode_front(buffer: &mut [u8], len: usize, digits: &[u8]) -> bool
+fn decode_prefix(buffer: &mut [u8], len: usize, digits: &[u8]) -> bool
     requires digits { length digits.now ≡ 2 * len }
     requires room { len ≤ length buffer.old }
     ensures digits { result ≡ list_all is_hex_digit digits.now }

@@ -1,5 +1,5 @@
 //! Each value has one text, and each text at most one value.
-ghost use Rattle.std.specs.Prelude.{◌≡◌, ℕ, ◌^◌, ◌<◌, ◌≤◌, Some, List, [], ◌∷◌, length, decimal, All};
+ghost use Rattle.std.specs.Prelude.{◌≡◌, ℕ, ◌^◌, ◌<◌, ◌≤◌, Some, List, ◌∷◌, length, decimal, All};
 ghost use Rattle.hex.specs.Hex.{encode_lower};
 ghost use Rattle.text_fields.specs.Fields.{AllLack, space, fields_of, joined};
 ghost use Rattle.text_fields.specs.Number.{number_in};

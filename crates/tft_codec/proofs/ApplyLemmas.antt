@@ -36,10 +36,10 @@ apart_from x xs (y ∷ ys) new =
 distinct_append : (xs ys : List ℕ) → IsDistinct nat_eq xs → IsDistinct nat_eq ys
     → AllByRecursion (λ y. has xs y ≡ false) ys → IsDistinct nat_eq (xs ++ ys)
 unfolding IsDistinct
-distinct_append [] ys front back new = back
-distinct_append (x ∷ xs) ys front back new =
+distinct_append [] ys prefix back new = back
+distinct_append (x ∷ xs) ys prefix back new =
     let apart = apart_from x xs ys new in
-    (each_append (λ y. nat_eq x y ≡ false) xs ys front.0 apart.0, distinct_append xs ys front.1 back apart.1)
+    (each_append (λ y. nat_eq x y ≡ false) xs ys prefix.0 apart.0, distinct_append xs ys prefix.1 back apart.1)
 
 each_new : (fs new : List Filter) → has_any fs new ≡ false → AllByRecursion (λ y. has (ids fs) y ≡ false) (ids new)
 each_new fs [] e = tt

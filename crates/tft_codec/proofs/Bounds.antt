@@ -139,9 +139,9 @@ unfolding room_of
 contents_bound cs kept = contents_room cs [] (fresh_from_distinct [] (map type_octet cs) kept.differ)
 
 -- a prefix of the contents, and one component more
-pub front_bound : (cs : List Component) (i : ℕ) (d : Component) → i < length cs → AreComponents cs
+pub prefix_bound : (cs : List Component) (i : ℕ) (d : Component) → i < length cs → AreComponents cs
     → length (contents (take i cs)) + length (component_text (get_or cs i d)) ≤ 44
-front_bound cs i d within kept =
+prefix_bound cs i d within kept =
     omega (arith, length-flat_map-take component_text cs i d within, contents_bound cs kept)
 
 pub whole_bound : (cs : List Component) (i : ℕ) → length cs ≤ i → AreComponents cs → length (contents (take i cs)) ≤ 44

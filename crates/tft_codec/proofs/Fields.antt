@@ -38,7 +38,7 @@ chosen false x y z e = inr (refl, e)
 pub some_is : {A : Type 0} (x y : A) → Some x ≡ Some y → x ≡ y
 some_is x y e = cc
 
--- what a reader took from the front
+-- what a reader took from the start
 pub record Takes (octets text rest : List ℕ) : Type 0 where
   pub parts : octets ≡ text ++ rest
   pub rest_small : AreOctets rest
@@ -57,7 +57,7 @@ pub record IsReader (limit : ℕ) (text : ℕ → List ℕ) (at : List ℕ → O
       → Takes octets (text n) rest × (n < limit)
   pub again : (n : ℕ) (rest : List ℕ) → n < limit → at (text n ++ rest) ≡ Some (n, rest)
 
--- how a number of so many octets is written, and what it is where it stands at the front
+-- how a number of so many octets is written, and what it is where it stands at the start
 pub record IsWide (len limit : ℕ) (text : ℕ → List ℕ) (number : List ℕ → ℕ → ℕ) : Type 0 where
   pub count : (n : ℕ) → length (text n) ≡ len
   pub back : (octets : List ℕ) → len ≤ length octets → AreOctets octets → text (number octets 0) ≡ take len octets
@@ -113,9 +113,9 @@ number_reader len limit text number wide = record {
       let long : len ≤ length octets = ltb-false (length octets) len g.0 in
       let n-is : number octets 0 ≡ n = ap (λ (p : ℕ × List ℕ). p.0) g.1 in
       let rest-is : drop len octets ≡ rest = ap (λ (p : ℕ × List ℕ). p.1) g.1 in
-      let front : text n ≡ take len octets = ap text (sym n-is) ∙ wide.back octets long small in
+      let prefix : text n ≡ take len octets = ap text (sym n-is) ∙ wide.back octets long small in
       let parts : octets ≡ text n ++ rest
-      = sym (take-append-drop len octets) ∙ (λ i. sym front i ++ rest-is i) in (
+      = sym (take-append-drop len octets) ∙ (λ i. sym prefix i ++ rest-is i) in (
         record { parts = parts; rest_small = subst AreOctets rest-is (octets_drop len octets small) },
         subst (λ m. m < limit) n-is (wide.below octets small),
       );
@@ -153,7 +153,7 @@ octet_shorter (octet ∷ octets) n rest e =
     let rest-is : octets ≡ rest = ap (λ (p : ℕ × List ℕ). p.1) (some_is (octet, octets) (n, rest) e) in
     rw (← rest-is) (omega arith)
 
--- the octet at the front, and the others
+-- the octet at the start, and the others
 pub octet_is : (octets : List ℕ) (octet : ℕ) (rest : List ℕ) → octet_at octets ≡ Some (octet, rest)
     → octets ≡ octet ∷ rest
 octet_is [] octet rest e = absurd cc

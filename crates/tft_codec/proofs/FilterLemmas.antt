@@ -161,10 +161,10 @@ filter_again seen first f rest first_is fits new =
     let all = first ∷ filter_body f ++ rest in
     let id_is : first % 16 ≡ f.id = omega (arith, fits.id, fits.direction) in
     let direction_is : first / 16 % 4 ≡ f.direction = omega (arith, fits.id, fits.direction) in
-    let front : take (length text) (text ++ rest) ≡ text = take_at text rest (length text) refl in
+    let prefix : take (length text) (text ++ rest) ≡ text = take_at text rest (length text) refl in
     let after : drop (length text) (text ++ rest) ≡ rest = drop_at text rest (length text) refl in
     let read : components_of (take (length text) (text ++ rest)) ≡ Some f.components
-    = ap components_of front ∙ components_again f.components fits.components in
+    = ap components_of prefix ∙ components_again f.components fits.components in
     let head : ltb (length all) 3 ≡ false = le-ltb _ _ (omega arith) in
     let long : ltb (length all) (3 + length text) ≡ false = le-ltb _ _ (omega (arith, length-append text rest)) in
     record {

@@ -34,8 +34,8 @@ each_push P (x ∷ xs) y each last = (each.0, each_push P xs y each.1 last)
 
 pub each_append : {X : Type 0} (P : X → Type 0) (xs ys : List X) → AllByRecursion P xs → AllByRecursion P ys
     → AllByRecursion P (xs ++ ys)
-each_append P [] ys front back = back
-each_append P (x ∷ xs) ys front back = (front.0, each_append P xs ys front.1 back)
+each_append P [] ys prefix back = back
+each_append P (x ∷ xs) ys prefix back = (prefix.0, each_append P xs ys prefix.1 back)
 
 -- what holds of each holds of one in the middle
 pub each_middle : {X : Type 0} (P : X → Type 0) (xs : List X) (y : X) (ys : List X) → AllByRecursion P (xs ++ y ∷ ys)

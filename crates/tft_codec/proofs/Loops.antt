@@ -15,84 +15,84 @@ use Rattle.tft_codec.specs.Refusal.{Says, end_fault, filter_fault, filters_fault
 use Rattle.tft_codec.proofs.ComponentLemmas.{component_found}
 
 -- what was read before, and what is still read
-abbrev pub with_front : {X : Type 0} → List X → Option (List X) → Option (List X)
-with_front front None = None
-with_front front (Some xs) = Some (front ++ xs)
+abbrev pub with_prefix : {X : Type 0} → List X → Option (List X) → Option (List X)
+with_prefix prefix None = None
+with_prefix prefix (Some xs) = Some (prefix ++ xs)
 
-regroup : {X : Type 0} (front : List X) (x : X) (read : Option (List X))
-    → with_front front (read >>= λ xs. Some (x ∷ xs)) ≡ with_front (front ++ x ∷ []) read
-regroup front x (Some xs) = ap (λ ys. Some ys) (sym (append_assoc front (x ∷ []) xs))
-regroup front x None = refl
+regroup : {X : Type 0} (prefix : List X) (x : X) (read : Option (List X))
+    → with_prefix prefix (read >>= λ xs. Some (x ∷ xs)) ≡ with_prefix (prefix ++ x ∷ []) read
+regroup prefix x (Some xs) = ap (λ ys. Some ys) (sym (append_assoc prefix (x ∷ []) xs))
+regroup prefix x None = refl
 
 -- the octets that are left give the rest of the components
 abbrev pub StillReads : List Component → List ℕ → Option (List Component) → Type 0
-StillReads front octets total =
+StillReads prefix octets total =
     (bound : ℕ) × (length octets ≤ bound)
-    × (with_front front (components_from bound (map type_octet front) octets) ≡ total)
+    × (with_prefix prefix (components_from bound (map type_octet prefix) octets) ≡ total)
 
-reads_on : (front : List Component) (bound kind : ℕ) (octets : List ℕ) (c : Component) (rest : List ℕ)
+reads_on : (prefix : List Component) (bound kind : ℕ) (octets : List ℕ) (c : Component) (rest : List ℕ)
     (total : Option (List Component)) → length octets < bound
-    → with_front front (components_from bound (map type_octet front) (kind ∷ octets)) ≡ total
-    → component_of kind octets ≡ Some (c, rest) → has (map type_octet front) kind ≡ false
-    → StillReads (front ++ c ∷ []) rest total
+    → with_prefix prefix (components_from bound (map type_octet prefix) (kind ∷ octets)) ≡ total
+    → component_of kind octets ≡ Some (c, rest) → has (map type_octet prefix) kind ≡ false
+    → StillReads (prefix ++ c ∷ []) rest total
 unfolding components_from
-reads_on front zero kind octets c rest total lt so_far found new = absurd (omega arith)
-reads_on front (suc bound) kind octets c rest total lt so_far found new =
+reads_on prefix zero kind octets c rest total lt so_far found new = absurd (omega arith)
+reads_on prefix (suc bound) kind octets c rest total lt so_far found new =
     let f = component_found kind octets c rest found in
-    let seen : map type_octet (front ++ c ∷ []) ≡ map type_octet front ++ kind ∷ []
-    = map_push type_octet front c ∙ ap (λ (k : ℕ). map type_octet front ++ k ∷ []) (sym f.kind_is) in
-    let step : with_front front (components_from (suc bound) (map type_octet front) (kind ∷ octets))
-    ≡ with_front (front ++ c ∷ []) (components_from bound (map type_octet front ++ kind ∷ []) rest) =
-    rw (found, new) (regroup front c (components_from bound (map type_octet front ++ kind ∷ []) rest)) in
+    let seen : map type_octet (prefix ++ c ∷ []) ≡ map type_octet prefix ++ kind ∷ []
+    = map_push type_octet prefix c ∙ ap (λ (k : ℕ). map type_octet prefix ++ k ∷ []) (sym f.kind_is) in
+    let step : with_prefix prefix (components_from (suc bound) (map type_octet prefix) (kind ∷ octets))
+    ≡ with_prefix (prefix ++ c ∷ []) (components_from bound (map type_octet prefix ++ kind ∷ []) rest) =
+    rw (found, new) (regroup prefix c (components_from bound (map type_octet prefix ++ kind ∷ []) rest)) in
     (bound, omega (arith, f.shorter), rw seen (sym step ∙ so_far))
 
-pub still_reads : (front : List Component) (kind : ℕ) (octets : List ℕ) (c : Component) (rest : List ℕ)
-    (total : Option (List Component)) → StillReads front (kind ∷ octets) total
-    → component_of kind octets ≡ Some (c, rest) → has (map type_octet front) kind ≡ false
-    → StillReads (front ++ c ∷ []) rest total
-still_reads front kind octets c rest total so_far found new =
-    reads_on front so_far.0 kind octets c rest total (omega (arith, so_far.1)) so_far.2 found new
+pub still_reads : (prefix : List Component) (kind : ℕ) (octets : List ℕ) (c : Component) (rest : List ℕ)
+    (total : Option (List Component)) → StillReads prefix (kind ∷ octets) total
+    → component_of kind octets ≡ Some (c, rest) → has (map type_octet prefix) kind ≡ false
+    → StillReads (prefix ++ c ∷ []) rest total
+still_reads prefix kind octets c rest total so_far found new =
+    reads_on prefix so_far.0 kind octets c rest total (omega (arith, so_far.1)) so_far.2 found new
 
-unknown_at : (front : List Component) (bound kind : ℕ) (octets : List ℕ) (total : Option (List Component))
-    → with_front front (components_from bound (map type_octet front) (kind ∷ octets)) ≡ total
+unknown_at : (prefix : List Component) (bound kind : ℕ) (octets : List ℕ) (total : Option (List Component))
+    → with_prefix prefix (components_from bound (map type_octet prefix) (kind ∷ octets)) ≡ total
     → component_of kind octets ≡ None → total ≡ None
 unfolding components_from
-unknown_at front zero kind octets total so_far found = sym so_far
-unknown_at front (suc bound) kind octets total so_far found =
-    let nothing : with_front front (components_from (suc bound) (map type_octet front) (kind ∷ octets)) ≡ None
+unknown_at prefix zero kind octets total so_far found = sym so_far
+unknown_at prefix (suc bound) kind octets total so_far found =
+    let nothing : with_prefix prefix (components_from (suc bound) (map type_octet prefix) (kind ∷ octets)) ≡ None
     = rw found refl in
     sym so_far ∙ nothing
 
-pub unknown : (front : List Component) (kind : ℕ) (octets : List ℕ) (total : Option (List Component))
-    → StillReads front (kind ∷ octets) total → component_of kind octets ≡ None → total ≡ None
-unknown front kind octets total so_far found = unknown_at front so_far.0 kind octets total so_far.2 found
+pub unknown : (prefix : List Component) (kind : ℕ) (octets : List ℕ) (total : Option (List Component))
+    → StillReads prefix (kind ∷ octets) total → component_of kind octets ≡ None → total ≡ None
+unknown prefix kind octets total so_far found = unknown_at prefix so_far.0 kind octets total so_far.2 found
 
-twice_at : (front : List Component) (bound kind : ℕ) (octets : List ℕ) (c : Component) (rest : List ℕ)
+twice_at : (prefix : List Component) (bound kind : ℕ) (octets : List ℕ) (c : Component) (rest : List ℕ)
     (total : Option (List Component))
-    → with_front front (components_from bound (map type_octet front) (kind ∷ octets)) ≡ total
-    → component_of kind octets ≡ Some (c, rest) → has (map type_octet front) kind ≡ true → total ≡ None
+    → with_prefix prefix (components_from bound (map type_octet prefix) (kind ∷ octets)) ≡ total
+    → component_of kind octets ≡ Some (c, rest) → has (map type_octet prefix) kind ≡ true → total ≡ None
 unfolding components_from
-twice_at front zero kind octets c rest total so_far found old = sym so_far
-twice_at front (suc bound) kind octets c rest total so_far found old =
-    let nothing : with_front front (components_from (suc bound) (map type_octet front) (kind ∷ octets)) ≡ None
+twice_at prefix zero kind octets c rest total so_far found old = sym so_far
+twice_at prefix (suc bound) kind octets c rest total so_far found old =
+    let nothing : with_prefix prefix (components_from (suc bound) (map type_octet prefix) (kind ∷ octets)) ≡ None
     = rw (found, old) refl in
     sym so_far ∙ nothing
 
-pub twice : (front : List Component) (kind : ℕ) (octets : List ℕ) (c : Component) (rest : List ℕ)
-    (total : Option (List Component)) → StillReads front (kind ∷ octets) total
-    → component_of kind octets ≡ Some (c, rest) → has (map type_octet front) kind ≡ true → total ≡ None
-twice front kind octets c rest total so_far found old =
-    twice_at front so_far.0 kind octets c rest total so_far.2 found old
+pub twice : (prefix : List Component) (kind : ℕ) (octets : List ℕ) (c : Component) (rest : List ℕ)
+    (total : Option (List Component)) → StillReads prefix (kind ∷ octets) total
+    → component_of kind octets ≡ Some (c, rest) → has (map type_octet prefix) kind ≡ true → total ≡ None
+twice prefix kind octets c rest total so_far found old =
+    twice_at prefix so_far.0 kind octets c rest total so_far.2 found old
 
-at_end : (front : List Component) (bound : ℕ) (total : Option (List Component))
-    → with_front front (components_from bound (map type_octet front) []) ≡ total → total ≡ Some front
+at_end : (prefix : List Component) (bound : ℕ) (total : Option (List Component))
+    → with_prefix prefix (components_from bound (map type_octet prefix) []) ≡ total → total ≡ Some prefix
 unfolding components_from
-at_end front zero total so_far = sym so_far ∙ ap (λ ys. Some ys) (append-nil front)
-at_end front (suc bound) total so_far = sym so_far ∙ ap (λ ys. Some ys) (append-nil front)
+at_end prefix zero total so_far = sym so_far ∙ ap (λ ys. Some ys) (append-nil prefix)
+at_end prefix (suc bound) total so_far = sym so_far ∙ ap (λ ys. Some ys) (append-nil prefix)
 
-pub all_read : (front : List Component) (total : Option (List Component)) → StillReads front [] total
-    → total ≡ Some front
-all_read front total so_far = at_end front so_far.0 total so_far.2
+pub all_read : (prefix : List Component) (total : Option (List Component)) → StillReads prefix [] total
+    → total ≡ Some prefix
+all_read prefix total so_far = at_end prefix so_far.0 total so_far.2
 
 -- whether octets stand behind the last entry
 pub nothing_left : (octets : List ℕ) → eqb (length octets) 0 ≡ true → octets ≡ []
@@ -105,43 +105,43 @@ something_left (octet ∷ octets) e = refl
 -- ---- filters
 
 -- the octets that are left have the faults and the filters that the whole still had
-pub record StillFilters (front : List Filter) (left : ℕ) (octets : List ℕ) (fault : Option TBad)
+pub record StillFilters (prefix : List Filter) (left : ℕ) (octets : List ℕ) (fault : Option TBad)
     (total : List Filter) : Type 0 where
-  pub faults : filters_fault left (ids front) octets ≡ fault
-  pub value : front ++ filters_at left octets ≡ total
+  pub faults : filters_fault left (ids prefix) octets ≡ fault
+  pub value : prefix ++ filters_at left octets ≡ total
 
-pub filters_begin : (front : List Filter) (n : ℕ) (octets : List ℕ) → front ≡ []
-    → StillFilters front (n - 0) octets (filters_fault n [] octets) (filters_at n octets)
-filters_begin front n octets nothing =
+pub filters_begin : (prefix : List Filter) (n : ℕ) (octets : List ℕ) → prefix ≡ []
+    → StillFilters prefix (n - 0) octets (filters_fault n [] octets) (filters_at n octets)
+filters_begin prefix n octets nothing =
     let all : n - 0 ≡ n = omega arith in rw (nothing, all) (record { faults = refl; value = refl })
 
-filters_step : (front : List Filter) (left : ℕ) (octets : List ℕ) (fault : Option TBad) (total : List Filter)
-    → StillFilters front (suc left) octets fault total → filter_fault (ids front) octets ≡ None
-    → StillFilters (front ++ filter_at octets ∷ []) left (after_filter octets) fault total
+filters_step : (prefix : List Filter) (left : ℕ) (octets : List ℕ) (fault : Option TBad) (total : List Filter)
+    → StillFilters prefix (suc left) octets fault total → filter_fault (ids prefix) octets ≡ None
+    → StillFilters (prefix ++ filter_at octets ∷ []) left (after_filter octets) fault total
 unfolding filters_fault filters_at filter_at
-filters_step front left octets fault total so_far fine =
-    let seen : ids (front ++ filter_at octets ∷ []) ≡ ids front ++ id_at octets ∷ []
-    = map_push (λ (f : Filter). f.id) front (filter_at octets) in
-    let step : filters_fault (suc left) (ids front) octets
-    ≡ filters_fault left (ids front ++ id_at octets ∷ []) (after_filter octets) = rw fine refl in
+filters_step prefix left octets fault total so_far fine =
+    let seen : ids (prefix ++ filter_at octets ∷ []) ≡ ids prefix ++ id_at octets ∷ []
+    = map_push (λ (f : Filter). f.id) prefix (filter_at octets) in
+    let step : filters_fault (suc left) (ids prefix) octets
+    ≡ filters_fault left (ids prefix ++ id_at octets ∷ []) (after_filter octets) = rw fine refl in
     record {
       faults = rw seen (sym step ∙ so_far.faults);
-      value = append_assoc front (filter_at octets ∷ []) (filters_at left (after_filter octets)) ∙ so_far.value;
+      value = append_assoc prefix (filter_at octets ∷ []) (filters_at left (after_filter octets)) ∙ so_far.value;
     }
 
-pub filters_on : (front : List Filter) (n i : ℕ) (octets : List ℕ) (fault : Option TBad) (total : List Filter) → i < n
-    → StillFilters front (n - i) octets fault total → filter_fault (ids front) octets ≡ None
-    → StillFilters (front ++ filter_at octets ∷ []) (n - (i + 1)) (after_filter octets) fault total
-filters_on front n i octets fault total lt so_far fine =
+pub filters_on : (prefix : List Filter) (n i : ℕ) (octets : List ℕ) (fault : Option TBad) (total : List Filter) → i < n
+    → StillFilters prefix (n - i) octets fault total → filter_fault (ids prefix) octets ≡ None
+    → StillFilters (prefix ++ filter_at octets ∷ []) (n - (i + 1)) (after_filter octets) fault total
+filters_on prefix n i octets fault total lt so_far fine =
     let one_less : n - i ≡ suc (n - (i + 1)) = omega arith in
-    filters_step front (n - (i + 1)) octets fault total (rw one_less at so_far) fine
+    filters_step prefix (n - (i + 1)) octets fault total (rw one_less at so_far) fine
 
-filters_stop : (front : List Filter) (left : ℕ) (octets : List ℕ) (fault : Option TBad) (total : List Filter)
-    (this : TBad) → StillFilters front (suc left) octets fault total → filter_fault (ids front) octets ≡ Some this
+filters_stop : (prefix : List Filter) (left : ℕ) (octets : List ℕ) (fault : Option TBad) (total : List Filter)
+    (this : TBad) → StillFilters prefix (suc left) octets fault total → filter_fault (ids prefix) octets ≡ Some this
     → fault ≡ Some this
 unfolding filters_fault
-filters_stop front left octets fault total this so_far found =
-    let step : filters_fault (suc left) (ids front) octets ≡ Some this = rw found refl in
+filters_stop prefix left octets fault total this so_far found =
+    let step : filters_fault (suc left) (ids prefix) octets ≡ Some this = rw found refl in
     sym so_far.faults ∙ step
 
 -- what an error says of one fault it says of another, where that is the same
@@ -154,81 +154,81 @@ says_on bad.Component a b same said = same bad.Component said
 says_on bad.RepeatedId a b same said = same bad.RepeatedId said
 says_on bad.Trailing a b same said = same bad.Trailing said
 
-pub filters_fail : (front : List Filter) (n i : ℕ) (octets : List ℕ) (fault : Option TBad) (total : List Filter)
-    (e : TBad) → i < n → StillFilters front (n - i) octets fault total → Says e (filter_fault (ids front) octets)
+pub filters_fail : (prefix : List Filter) (n i : ℕ) (octets : List ℕ) (fault : Option TBad) (total : List Filter)
+    (e : TBad) → i < n → StillFilters prefix (n - i) octets fault total → Says e (filter_fault (ids prefix) octets)
     → Says e fault
-filters_fail front n i octets fault total e lt so_far said =
+filters_fail prefix n i octets fault total e lt so_far said =
     let one_less : n - i ≡ suc (n - (i + 1)) = omega arith in
-    says_on e (filter_fault (ids front) octets) fault
-    (λ this found. filters_stop front (n - (i + 1)) octets fault total this (rw one_less at so_far) found) said
+    says_on e (filter_fault (ids prefix) octets) fault
+    (λ this found. filters_stop prefix (n - (i + 1)) octets fault total this (rw one_less at so_far) found) said
 
-pub filters_end : (front : List Filter) (n i : ℕ) (octets : List ℕ) (fault : Option TBad) (total : List Filter)
-    → n ≤ i → StillFilters front (n - i) octets fault total → (end_fault octets ≡ fault) × (front ≡ total)
+pub filters_end : (prefix : List Filter) (n i : ℕ) (octets : List ℕ) (fault : Option TBad) (total : List Filter)
+    → n ≤ i → StillFilters prefix (n - i) octets fault total → (end_fault octets ≡ fault) × (prefix ≡ total)
 unfolding filters_fault filters_at
-filters_end front n i octets fault total le so_far =
+filters_end prefix n i octets fault total le so_far =
     let none_left : n - i ≡ 0 = omega arith in
-    let at_zero : StillFilters front 0 octets fault total = rw none_left at so_far in
-    (at_zero.faults, sym (append-nil front) ∙ at_zero.value)
+    let at_zero : StillFilters prefix 0 octets fault total = rw none_left at so_far in
+    (at_zero.faults, sym (append-nil prefix) ∙ at_zero.value)
 
 -- ---- identifiers
 
-pub record StillIds (front : List ℕ) (left : ℕ) (octets : List ℕ) (fault : Option TBad) (total : List ℕ) : Type 0 where
-  pub faults : ids_fault left front octets ≡ fault
-  pub value : front ++ ids_at octets ≡ total
+pub record StillIds (prefix : List ℕ) (left : ℕ) (octets : List ℕ) (fault : Option TBad) (total : List ℕ) : Type 0 where
+  pub faults : ids_fault left prefix octets ≡ fault
+  pub value : prefix ++ ids_at octets ≡ total
 
-pub ids_begin : (front : List ℕ) (n : ℕ) (octets : List ℕ) → front ≡ []
-    → StillIds front (n - 0) octets (ids_fault n [] octets) (ids_at octets)
-ids_begin front n octets nothing =
+pub ids_begin : (prefix : List ℕ) (n : ℕ) (octets : List ℕ) → prefix ≡ []
+    → StillIds prefix (n - 0) octets (ids_fault n [] octets) (ids_at octets)
+ids_begin prefix n octets nothing =
     let all : n - 0 ≡ n = omega arith in rw (nothing, all) (record { faults = refl; value = refl })
 
-ids_step : (front : List ℕ) (left octet : ℕ) (octets : List ℕ) (fault : Option TBad) (total : List ℕ)
-    → StillIds front (suc left) (octet ∷ octets) fault total → has front (octet % 16) ≡ false
-    → StillIds (front ++ octet % 16 ∷ []) left octets fault total
+ids_step : (prefix : List ℕ) (left octet : ℕ) (octets : List ℕ) (fault : Option TBad) (total : List ℕ)
+    → StillIds prefix (suc left) (octet ∷ octets) fault total → has prefix (octet % 16) ≡ false
+    → StillIds (prefix ++ octet % 16 ∷ []) left octets fault total
 unfolding ids_fault
-ids_step front left octet octets fault total so_far new =
-    let step : ids_fault (suc left) front (octet ∷ octets) ≡ ids_fault left (front ++ octet % 16 ∷ []) octets
+ids_step prefix left octet octets fault total so_far new =
+    let step : ids_fault (suc left) prefix (octet ∷ octets) ≡ ids_fault left (prefix ++ octet % 16 ∷ []) octets
     = rw new refl in
     record {
       faults = sym step ∙ so_far.faults;
-      value = append_assoc front (octet % 16 ∷ []) (ids_at octets) ∙ so_far.value;
+      value = append_assoc prefix (octet % 16 ∷ []) (ids_at octets) ∙ so_far.value;
     }
 
-pub ids_on : (front : List ℕ) (n i octet : ℕ) (octets : List ℕ) (fault : Option TBad) (total : List ℕ) → i < n
-    → StillIds front (n - i) (octet ∷ octets) fault total → has front (octet % 16) ≡ false
-    → StillIds (front ++ octet % 16 ∷ []) (n - (i + 1)) octets fault total
-ids_on front n i octet octets fault total lt so_far new =
+pub ids_on : (prefix : List ℕ) (n i octet : ℕ) (octets : List ℕ) (fault : Option TBad) (total : List ℕ) → i < n
+    → StillIds prefix (n - i) (octet ∷ octets) fault total → has prefix (octet % 16) ≡ false
+    → StillIds (prefix ++ octet % 16 ∷ []) (n - (i + 1)) octets fault total
+ids_on prefix n i octet octets fault total lt so_far new =
     let one_less : n - i ≡ suc (n - (i + 1)) = omega arith in
-    ids_step front (n - (i + 1)) octet octets fault total (rw one_less at so_far) new
+    ids_step prefix (n - (i + 1)) octet octets fault total (rw one_less at so_far) new
 
-twice_id : (front : List ℕ) (left octet : ℕ) (octets : List ℕ) (fault : Option TBad) (total : List ℕ)
-    → StillIds front (suc left) (octet ∷ octets) fault total → has front (octet % 16) ≡ true
+twice_id : (prefix : List ℕ) (left octet : ℕ) (octets : List ℕ) (fault : Option TBad) (total : List ℕ)
+    → StillIds prefix (suc left) (octet ∷ octets) fault total → has prefix (octet % 16) ≡ true
     → fault ≡ Some bad.RepeatedId
 unfolding ids_fault
-twice_id front left octet octets fault total so_far old =
-    let step : ids_fault (suc left) front (octet ∷ octets) ≡ Some bad.RepeatedId = rw old refl in
+twice_id prefix left octet octets fault total so_far old =
+    let step : ids_fault (suc left) prefix (octet ∷ octets) ≡ Some bad.RepeatedId = rw old refl in
     sym so_far.faults ∙ step
 
-pub ids_twice : (front : List ℕ) (n i octet : ℕ) (octets : List ℕ) (fault : Option TBad) (total : List ℕ) → i < n
-    → StillIds front (n - i) (octet ∷ octets) fault total → has front (octet % 16) ≡ true → fault ≡ Some bad.RepeatedId
-ids_twice front n i octet octets fault total lt so_far old =
+pub ids_twice : (prefix : List ℕ) (n i octet : ℕ) (octets : List ℕ) (fault : Option TBad) (total : List ℕ) → i < n
+    → StillIds prefix (n - i) (octet ∷ octets) fault total → has prefix (octet % 16) ≡ true → fault ≡ Some bad.RepeatedId
+ids_twice prefix n i octet octets fault total lt so_far old =
     let one_less : n - i ≡ suc (n - (i + 1)) = omega arith in
-    twice_id front (n - (i + 1)) octet octets fault total (rw one_less at so_far) old
+    twice_id prefix (n - (i + 1)) octet octets fault total (rw one_less at so_far) old
 
-short_id : (front : List ℕ) (left : ℕ) (fault : Option TBad) (total : List ℕ)
-    → StillIds front (suc left) [] fault total → fault ≡ Some bad.Short
+short_id : (prefix : List ℕ) (left : ℕ) (fault : Option TBad) (total : List ℕ)
+    → StillIds prefix (suc left) [] fault total → fault ≡ Some bad.Short
 unfolding ids_fault
-short_id front left fault total so_far = sym so_far.faults
+short_id prefix left fault total so_far = sym so_far.faults
 
-pub ids_short : (front : List ℕ) (n i : ℕ) (fault : Option TBad) (total : List ℕ) → i < n
-    → StillIds front (n - i) [] fault total → fault ≡ Some bad.Short
-ids_short front n i fault total lt so_far =
+pub ids_short : (prefix : List ℕ) (n i : ℕ) (fault : Option TBad) (total : List ℕ) → i < n
+    → StillIds prefix (n - i) [] fault total → fault ≡ Some bad.Short
+ids_short prefix n i fault total lt so_far =
     let one_less : n - i ≡ suc (n - (i + 1)) = omega arith in
-    short_id front (n - (i + 1)) fault total (rw one_less at so_far)
+    short_id prefix (n - (i + 1)) fault total (rw one_less at so_far)
 
-pub ids_end : (front : List ℕ) (n i : ℕ) (octets : List ℕ) (fault : Option TBad) (total : List ℕ) → n ≤ i
-    → StillIds front (n - i) octets fault total → (end_fault octets ≡ fault) × (front ++ ids_at octets ≡ total)
+pub ids_end : (prefix : List ℕ) (n i : ℕ) (octets : List ℕ) (fault : Option TBad) (total : List ℕ) → n ≤ i
+    → StillIds prefix (n - i) octets fault total → (end_fault octets ≡ fault) × (prefix ++ ids_at octets ≡ total)
 unfolding ids_fault
-ids_end front n i octets fault total le so_far =
+ids_end prefix n i octets fault total le so_far =
     let none_left : n - i ≡ 0 = omega arith in
-    let at_zero : StillIds front 0 octets fault total = rw none_left at so_far in
+    let at_zero : StillIds prefix 0 octets fault total = rw none_left at so_far in
     (at_zero.faults, at_zero.value)

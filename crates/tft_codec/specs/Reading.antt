@@ -1,4 +1,4 @@
--- What stands at the front of octets, by place.
+-- What stands at the start of octets, by place.
 use Rattle.std.specs.Prelude.{
   ◌≡◌,
   ℕ,
@@ -126,7 +126,7 @@ components_of octets = components_from (length octets) [] octets
 abbrev pub components_or_none : List ℕ → List Component
 components_or_none octets = unwrap_or (components_of octets) []
 
--- the fields of the filter at the front
+-- the fields of the filter at the start
 abbrev pub id_at : List ℕ → ℕ
 id_at octets = slice_index octets 0 % 16
 
@@ -146,7 +146,7 @@ filter_at octets =
       components = components_or_none (contents_at octets);
     }
 
--- the filters at the front, that many
+-- the filters at the start, that many
 unfoldable pub filters_at : ℕ → List ℕ → List Filter
 filters_at zero octets = []
 filters_at (suc n) octets = filter_at octets ∷ filters_at n (after_filter octets)

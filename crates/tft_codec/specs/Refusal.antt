@@ -62,9 +62,9 @@ Reads view (Ok x) fault value = (fault ≡ None) × (view x ≡ value)
 Reads view (Err e) fault value = Says e fault
 
 -- the same of a value and the octets after it
-abbrev pub ReadsFront : {X : Type 0} → Result (X × Bor (List ℕ)) TBad → Option TBad → X → List ℕ → Type 0
-ReadsFront (Ok x) fault value after = (fault ≡ None) × (x.0 ≡ value) × (x.1.now ≡ after)
-ReadsFront (Err e) fault value after = Says e fault
+abbrev pub ReadsFirst : {X : Type 0} → Result (X × Bor (List ℕ)) TBad → Option TBad → X → List ℕ → Type 0
+ReadsFirst (Ok x) fault value after = (fault ≡ None) × (x.0 ≡ value) × (x.1.now ≡ after)
+ReadsFirst (Err e) fault value after = Says e fault
 
 -- octets behind the last entry
 abbrev pub end_fault : List ℕ → Option TBad
@@ -75,7 +75,7 @@ end_fault (octet ∷ octets) = Some bad.Trailing
 abbrev pub contents_fault : List ℕ → Option TBad
 contents_fault octets = if is_none (components_of octets) then Some bad.Component else None
 
--- a filter at the front, behind filters of these identifiers
+-- a filter at the start, behind filters of these identifiers
 unfoldable pub filter_fault : List ℕ → List ℕ → Option TBad
 filter_fault seen octets =
     if nat_lt (length octets) 3 then Some bad.Short

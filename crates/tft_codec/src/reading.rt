@@ -21,7 +21,7 @@ ghost use Rattle.tft_codec.specs.Reading.{
 };
 ghost use Rattle.tft_codec.specs.Refusal.{
   Reads,
-  ReadsFront,
+  ReadsFirst,
   contents_fault,
   filter_fault,
   filters_fault,
@@ -157,14 +157,14 @@ fn components_in(alloc: Global, contents: &[u8]) -> Result<Components, TBad>
     Ok(Components { items })
 }
 
-/// The filter at the front, behind others.
+/// The filter at the start, behind others.
 #[tactic(auto, unfolding(crate::specs::Refusal::filter_fault))]
 fn filter_of<'a>(
     alloc: Global,
     before: &[Filter],
     bytes: &'a [u8],
 ) -> Result<(Filter, &'a [u8]), TBad>
-    ensures { ReadsFront result (filter_fault (ids before.now) bytes.now)
+    ensures { ReadsFirst result (filter_fault (ids before.now) bytes.now)
         (filter_at bytes.now) (after_filter bytes.now) }
 {
     if bytes.len() < 3 {

@@ -1,7 +1,6 @@
 //! A template to octets.
 
-ghost use Rattle.std.specs.Prelude.{◌≡◌, ◌≤◌, ◌<◌, ◌∷◌, ◌++◌, length, OnOk, IfOk, [], ℕ, List, ◌*◌, ◌+◌};
-ghost use Rattle.std.specs.List.{flat_map, AllByRecursion};
+ghost use Rattle.std.specs.Prelude.{◌≡◌, ◌≤◌, ◌<◌, ◌++◌, length, OnOk, IfOk, ◌*◌, ◌+◌};
 ghost use Rattle.tft_codec.specs.Component.{component_text, contents, AreComponents};
 ghost use Rattle.tft_codec.specs.Filter.{IsFilter, ArePacketFilters};
 ghost use Rattle.tft_codec.specs.Spelling.{Spells, spelling, filter_text, entries_text};

@@ -27,10 +27,10 @@ rising_differ xs rise i j d before within =
 
 module _ {X : Type 0} (key : X → ℕ) (xs : List X) (differ : AllPairs (λ a b. a ≢ b) (map key xs)) where
   -- an earlier element has another key
-  key_apart : (x y : X) (front : Contains xs x) (back : Contains xs y) → front.0 < back.0 → key x ≢ key y
-  key_apart x y front back before same =
+  key_apart : (x y : X) (earlier : Contains xs x) (back : Contains xs y) → earlier.0 < back.0 → key x ≢ key y
+  key_apart x y earlier back before same =
       let within : back.0 < length (map key xs) = rw (length-map xs key) back.1 in
-      differ front.0 back.0 0 before within (key_at key xs x front ∙ same ∙ sym (key_at key xs y back))
+      differ earlier.0 back.0 0 before within (key_at key xs x earlier ∙ same ∙ sym (key_at key xs y back))
 
   pub element_from_key : (x y : X) → Contains xs x → Contains xs y → key x ≡ key y → x ≡ y
   element_from_key x y first second same =

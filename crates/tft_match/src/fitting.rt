@@ -2,7 +2,7 @@
 ghost use Rattle.std.specs.Prelude.{◌≡◌, ◌↔◌, IsTrue};
 ghost use Rattle.std.specs.List.{list_all};
 ghost use Rattle.tft_match.specs.Ends.{AreEnds};
-ghost use Rattle.tft_match.specs.Fit.{agree_under, is_within, is_wanted, holds, Fits, fits};
+ghost use Rattle.tft_match.specs.Fit.{agree_under, is_within, holds, Fits, fits};
 
 use crate::direction::{Direction, counts_in};
 use crate::ends::{PacketEnds, ends_of};

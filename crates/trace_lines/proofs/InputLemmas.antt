@@ -70,39 +70,39 @@ last_line room number least line no_newline short some more =
     ∙ ap (line_then number (line_meaning least number line)) (λ i l. sym (at_end room (number + 1) l.moment more) i)
 
 -- a list of pieces that isn't empty has a first one
-long_pieces : (full : Bool) (number least : ℕ) (front octets : List ℕ) (pieces : List (List ℕ)) → NoNewline front
-    → line_max < length front
+long_pieces : (full : Bool) (number least : ℕ) (prefix octets : List ℕ) (pieces : List (List ℕ)) → NoNewline prefix
+    → line_max < length prefix
     → slice_split ends_line octets ≡ pieces → 0 < length pieces
-    → pieces_meaning full number least (slice_split ends_line (front ++ octets)) ≡ stopped (long number)
-long_pieces full number least front octets [] no_newline too_long is some = absurd (omega arith)
-long_pieces full number least front octets (piece ∷ pieces) no_newline too_long is some =
-    ap (pieces_meaning full number least) (first_piece front octets piece pieces no_newline is)
-    ∙ long_first full number least (front ++ piece) pieces (omega (arith, length-append front piece))
+    → pieces_meaning full number least (slice_split ends_line (prefix ++ octets)) ≡ stopped (long number)
+long_pieces full number least prefix octets [] no_newline too_long is some = absurd (omega arith)
+long_pieces full number least prefix octets (piece ∷ pieces) no_newline too_long is some =
+    ap (pieces_meaning full number least) (first_piece prefix octets piece pieces no_newline is)
+    ∙ long_first full number least (prefix ++ piece) pieces (omega (arith, length-append prefix piece))
 
 -- more octets than a line may have came without newline
-pub line_long : (room number least : ℕ) (front rest : List ℕ) → NoNewline front → line_max < length front
-    → length front ≤ room
-    → input_within room number least (front ++ rest) ≡ stopped (long number)
+pub line_long : (room number least : ℕ) (prefix rest : List ℕ) → NoNewline prefix → line_max < length prefix
+    → length prefix ≤ room
+    → input_within room number least (prefix ++ rest) ≡ stopped (long number)
 unfolding input_within
-line_long room number least front rest no_newline too_long within =
-    let beyond = room - length front in
-    let full = nat_le room (length (front ++ rest)) in
-    ap (λ octets. pieces_meaning full number least (slice_split ends_line octets)) (taken_behind room front rest within)
-    ∙ long_pieces full number least front (take beyond rest)
+line_long room number least prefix rest no_newline too_long within =
+    let beyond = room - length prefix in
+    let full = nat_le room (length (prefix ++ rest)) in
+    ap (λ octets. pieces_meaning full number least (slice_split ends_line octets)) (taken_behind room prefix rest within)
+    ∙ long_pieces full number least prefix (take beyond rest)
     (slice_split ends_line (take beyond rest)) no_newline too_long refl
     (omega (arith, length-slice_split ends_line (take beyond rest)))
 
 -- the octets that are looked at end with an unfinished line
-pub input_big : (number least : ℕ) (front rest : List ℕ) → NoNewline front → length front ≤ line_max
-    → input_within (length front) number least (front ++ rest) ≡ stopped big
+pub input_big : (number least : ℕ) (prefix rest : List ℕ) → NoNewline prefix → length prefix ≤ line_max
+    → input_within (length prefix) number least (prefix ++ rest) ≡ stopped big
 unfolding input_within
-input_big number least front rest no_newline short =
-    let full : nat_le (length front) (length (front ++ rest)) ≡ true =
-    let longer = length-append front rest in grind (arith, nat_tests)
+input_big number least prefix rest no_newline short =
+    let full : nat_le (length prefix) (length (prefix ++ rest)) ≡ true =
+    let longer = length-append prefix rest in grind (arith, nat_tests)
     in
-    let fits : nat_lt line_max (length front) ≡ false = grind (arith, nat_tests) in
-    ap (λ b. pieces_meaning b number least (slice_split ends_line (take (length front) (front ++ rest)))) full
-    ∙ ap (pieces_meaning true number least) (cut_pieces front rest no_newline)
+    let fits : nat_lt line_max (length prefix) ≡ false = grind (arith, nat_tests) in
+    ap (λ b. pieces_meaning b number least (slice_split ends_line (take (length prefix) (prefix ++ rest)))) full
+    ∙ ap (pieces_meaning true number least) (cut_pieces prefix rest no_newline)
     ∙ rw fits
 
 -- one line more behind those that were read

@@ -20,10 +20,10 @@ use Rattle.trace_lines.specs.Kind as kind
 use Rattle.trace_lines.specs.Line.{Line, IsLine, IsKind}
 use Rattle.trace_lines.specs.Text.{Means, kind_word, arguments, line_fields, line_text, lowered_fields, lowered}
 use Rattle.trace_lines.specs.Refused.{◌>>=◌}
-use Rattle.trace_lines.specs.Meaning.{number_meaning, kind_meaning, moment_meaning, line_of_fields, line_meaning}
+use Rattle.trace_lines.specs.Meaning.{kind_meaning, moment_meaning, line_of_fields, line_meaning}
 use Rattle.text_fields.proofs.PlainLemmas.{IsField, kept, field-decimal, field-dotted, field-encode_lower}
 use Rattle.trace_lines.proofs.FormLemmas.{field-imsi, field-teid}
-use Rattle.trace_lines.proofs.KindLemmas.{Says, taken, bound, some_from_ok, kind_given, kind_taken}
+use Rattle.trace_lines.proofs.KindLemmas.{Says, taken, bound, kind_given, kind_taken}
 
 lower_other : (octet : ℕ) → octet ≢ 32 → lower octet ≢ 32
 lower_other octet other same = other (grind (arith, nat_tests))
@@ -342,16 +342,3 @@ lowered_length (moment ∷ word ∷ text ∷ texts) =
 pub length-line_text : (text : List ℕ) (line : Line) → Means text line → length (line_text line) ≡ length text
 length-line_text text line means =
     ap length (sym means.is_text) ∙ lowered_length (fields_of text) ∙ ap length (joined-pieces space text)
-
--- the ranges of a line that was made of what was read
-pub is_line_by : (moment : ℕ) (text word : List ℕ) (texts : List (List ℕ)) (said : LineKind) (number : ℕ)
-    → number_meaning 0 (2 ^ 50 - 1) text ≡ Ok moment → kind_meaning word texts ≡ Ok said
-    → IsLine (record { number = number; moment = moment; kind = said })
-is_line_by moment text word texts said number at is = record {
-  moment = omega (
-    arith,
-    (number_only 0 (2 ^ 50 - 1) moment text (lit< tt)
-        (some_from_ok (number_in 0 (2 ^ 50 - 1) text) Number moment at)).2,
-  );
-  kind = (kind_given word texts said is).is_kind;
-}

@@ -90,7 +90,3 @@ pub whole_refused : (least number : ℕ) (text : List ℕ) (why : LineBad)
     ⊎ (line_meaning least number text ≡ Err (if has_empty_field text then Field else why))
 whole_refused least number text why refused =
     refusal_at (has_empty_field text) (line_of_fields least number (fields_of text)) why refused
-
-pub want_of_memory : (b : Bool) (why : LineBad) → (if b then Field else why) ≡ NoMemory → why ≡ NoMemory
-want_of_memory true why none = cc
-want_of_memory false why none = none

@@ -1,5 +1,5 @@
 //! Where an epoch ends.
-ghost use Rattle.std.specs.Prelude.{◌≡◌, ◌+◌, List, length};
+ghost use Rattle.std.specs.Prelude.{◌≡◌, List, length};
 ghost use Rattle.trace_lines.specs.Line.{Line};
 ghost use Rattle.trace_lines.specs.Text.{line_text};
 ghost use Rattle.trace_lines.specs.Epochs.{is_fence, octets_in, ends_epoch};

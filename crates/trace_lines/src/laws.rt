@@ -1,5 +1,5 @@
 //! A text and the lines that it means; the runs of lines that epochs are.
-ghost use Rattle.std.specs.Prelude.{◌≡◌, ℕ, ◌≤◌, ◌<◌, ◌^◌, All, Ok, List};
+ghost use Rattle.std.specs.Prelude.{◌≡◌, ℕ, ◌≤◌, All, Ok, List};
 ghost use Rattle.std.specs.Result.{result_err};
 ghost use Rattle.trace_lines.specs.Input.{input_of};
 ghost use Rattle.trace_lines.specs.Line.{Line, IsLine};

@@ -1,13 +1,13 @@
 -- The lines of a generated trace stand in order.
-use Rattle.std.proofs.Common.{◌≡◌, ℕ, zero, suc, ◌+◌, ◌-◌, ◌*◌, ◌/◌, ◌%◌, ◌^◌, ◌<◌, ◌≤◌, Bool, true, false, ◌==◌, List, [], ◌∷◌, ◌++◌, nat_lt, if◌then◌else◌, refl, sym, ap, subst, arith}
+use Rattle.std.proofs.Common.{ℕ, zero, suc, ◌+◌, ◌*◌, ◌/◌, ◌^◌, ◌<◌, ◌≤◌, Bool, true, false, ◌==◌, List, ◌++◌, nat_lt, if◌then◌else◌, refl, subst, arith}
 use Rattle.std.proofs.Math.Nat.{mod-lt}
 use Rattle.pc_base.specs.Slots.{IsSlot}
 use Rattle.trace_lines.specs.Line.{Line}
 use Rattle.trace_maker.specs.Draws.{moved, number_at}
-use Rattle.trace_maker.specs.Generated.{Drawn, attach_line, attach_lines, chosen, drawn_lines, line_drawn, made}
+use Rattle.trace_maker.specs.Generated.{Drawn, attach_lines, chosen, drawn_lines, line_drawn, made}
 use Rattle.trace_maker.specs.Numbering.{AreInOrder}
-use Rattle.trace_maker.specs.Said.{IsLength, IsSaid, kind_of}
-use Rattle.trace_maker.specs.declared.said.Said.TheVariants.{Attach, Up, Down, Rates, Move}
+use Rattle.trace_maker.specs.Said.{IsLength, IsSaid}
+use Rattle.trace_maker.specs.declared.said.Said.TheVariants.{Attach}
 use Rattle.trace_maker.proofs.TextLemmas.{is_short}
 
 -- what is drawn is in range

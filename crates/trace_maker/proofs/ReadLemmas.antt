@@ -1,6 +1,6 @@
 -- The text of lines that stand in order says these lines.
 use Rattle.std.proofs.Common.{◌≡◌, ℕ, zero, suc, ◌+◌, ◌-◌, ◌*◌, ◌^◌, ◌<◌, ◌≤◌, List, [], ◌∷◌, ◌++◌, Ok, length, length-append, append_assoc, refl, sym, ap, ◌∙◌, arith}
-use Rattle.trace_lines.specs.Input.{Input, ended, input_of, input_within, line_then, stopped}
+use Rattle.trace_lines.specs.Input.{Input, ended, input_of, input_within, line_then}
 use Rattle.trace_lines.specs.Line.{Line}
 use Rattle.trace_lines.specs.Meaning.{line_meaning}
 use Rattle.trace_lines.specs.Text.{line_text}

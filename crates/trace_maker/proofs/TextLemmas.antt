@@ -1,19 +1,17 @@
 -- The texts of lines: each is one line, and short.
-use Rattle.std.proofs.Common.{◌≡◌, ◌≢◌, ℕ, ◌+◌, ◌*◌, ◌-◌, ◌/◌, ◌%◌, ◌^◌, ◌<◌, ◌≤◌, Bool, true, List, [], ◌∷◌, ◌++◌, length, get_or, All, arith, codes, map, nat_lt, slice_index, length-append, refl}
+use Rattle.std.proofs.Common.{◌≡◌, ℕ, ◌+◌, ◌*◌, ◌-◌, ◌^◌, ◌<◌, ◌≤◌, true, List, [], ◌∷◌, ◌++◌, length, All, arith, codes, map, nat_lt, length-append, refl}
 use Rattle.std.proofs.lemmas.List.{length-replicate}
 use Rattle.std.specs.Prelude.{decimal}
-use Rattle.std.specs.Char.{IsAsciiDigit}
 use Rattle.std.specs.Int.{w32, to_be_bytes}
 use Rattle.std.specs.List.{list_all, join_with_byte}
 use Rattle.std.proofs.lemmas.Bool.Decides.{nat_tests}
 use Rattle.std.proofs.lemmas.Fmt.{length-decimal-le}
-use Rattle.std.proofs.lemmas.List.Elements.{All-cons, All-head, All-tail, All-nil, All-append}
+use Rattle.std.proofs.lemmas.List.Elements.{All-cons, All-append}
 use Rattle.std.proofs.lemmas.List.Sums.{AllPass-from_list_all}
-use Rattle.hex.specs.Hex.{encode_lower, encode_with, lower_digits}
+use Rattle.hex.specs.Hex.{encode_lower, lower_digits}
 use Rattle.hex.proofs.HexLemmas.{length-encode_with}
 use Rattle.pc_base.specs.Addresses.{addr_of}
 use Rattle.pc_base.specs.Imsi.{IsImsi}
-use Rattle.pc_outside.specs.Line.{NoNewline}
 use Rattle.text_fields.specs.Address.{dot, dotted}
 use Rattle.text_fields.specs.Fields.{joined}
 use Rattle.text_fields.proofs.PlainLemmas.{IsLow, low_decimal, low_address, digits_between}

@@ -6,11 +6,11 @@ use Rattle.trace_maker.specs.Generated.{row_of, text_of}
 
 -- known octets grow by the text of some first lines, and not of all
 pub record AppendsLines (old new : Option (List ℕ)) (lines : List Line) : Type 0 where
-  pub front : List Line
+  pub prefix : List Line
   pub rest : List Line
-  pub parts : lines ≡ front ++ rest
+  pub parts : lines ≡ prefix ++ rest
   pub some_left : 0 < length rest
-  pub appended : Appends old new (text_of front)
+  pub appended : Appends old new (text_of prefix)
 
 -- the first of the lines is made, and its text stands behind the text before
 pub record PushesLine (text_before text : List ℕ) (lines_before lines : List Line) : Type 0 where

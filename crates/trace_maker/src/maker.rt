@@ -22,7 +22,7 @@ pub struct Maker {
 }
 
 impl Model for Maker {
-    ghost use Rattle.std.specs.Prelude.{ℕ, ◌+◌, ◌-◌, ◌<◌, ◌≤◌, List, ◌++◌};
+    ghost use Rattle.std.specs.Prelude.{◌+◌, ◌-◌, ◌<◌, ◌≤◌, List, ◌++◌};
     ghost use Rattle.trace_lines.specs.Line.{Line};
     ghost use Rattle.trace_maker.specs.Generated.{attach_lines, drawn_lines};
 

@@ -4,7 +4,7 @@ ghost use Rattle.std.specs.Prelude.{IfOk, IfSome, OnOk, OnErr};
 ghost use Rattle.std.specs.Io.KnownBytes.{Appends};
 ghost use Rattle.hex.specs.Hex.{encode_lower};
 ghost use Rattle.pc_outside.specs.Faults.{Rises};
-ghost use Rattle.pc_outside.specs.Fronts.{AppendsPrefix};
+ghost use Rattle.pc_outside.specs.Prefixes.{AppendsPrefix};
 ghost use Rattle.trace_lines.specs.Text.{arguments, kind_word, line_text};
 ghost use Rattle.trace_maker.specs.Generated.{made, text_of};
 ghost use Rattle.trace_maker.specs.Plan.{line_of};

@@ -1,9 +1,7 @@
 //! What a line says, by the few numbers that make it.
-ghost use Rattle.std.specs.Prelude.{◌≡◌, ◌++◌, ◌∷◌, [], ◌<◌, ◌≤◌, IfOk, OnOk};
-ghost use Rattle.pc_base.specs.Slots.{IsSlot};
+ghost use Rattle.std.specs.Prelude.{◌≡◌, ◌<◌, ◌≤◌, IfOk};
 ghost use Rattle.trace_lines.specs.Beside.{with_octets};
-ghost use Rattle.trace_maker.specs.Draws.{moved};
-ghost use Rattle.trace_maker.specs.Generated.{Drawn, line_drawn};
+ghost use Rattle.trace_maker.specs.Generated.{line_drawn};
 ghost use Rattle.trace_maker.specs.Said.{IsSaid, digit, imsi_of, kind_of};
 
 use crate::draws::Draws;

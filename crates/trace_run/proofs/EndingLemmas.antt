@@ -1,5 +1,5 @@
 -- How the lines of an input end, and what a run that ends, or is cut, wrote.
-use Rattle.std.proofs.Common.{◌≡◌, ℕ, ◌+◌, ◌^◌, Bool, List, [], ◌∷◌, ◌++◌, length, Option, None, Some, inl, inr, refl, sym, ap, subst, ◌∙◌, append_assoc, append-nil, arith}
+use Rattle.std.proofs.Common.{◌≡◌, ℕ, ◌+◌, Bool, List, [], ◌∷◌, ◌++◌, length, Option, None, Some, inl, inr, refl, sym, ap, subst, ◌∙◌, append_assoc, append-nil, arith}
 use Rattle.std.specs.Io.KnownBytes.{Appends, prepend_known}
 use Rattle.std.proofs.KnownBytes.{Appends-nil}
 use Rattle.pc_outside.specs.Held.{Held, IsUnfinished}
@@ -71,10 +71,10 @@ reached_big begin start a left number least room after held done read tells =
 
 pub reached_fault : (begin : Beginning) (start a left : Option (List ℕ)) (number least room : ℕ) (now : Held) (done : List Line)
     → WhereTold start a (λ octets rest. HasRead begin octets rest number least room done)
-    → Tells next.ReadFault number least room now.room a (prepend_known now.front left) → IsUnfinished now
+    → Tells next.ReadFault number least room now.room a (prepend_known now.buffered left) → IsUnfinished now
     → WhereTold start left (λ octets rest. ReachedFrom begin ReadFault octets rest done)
 reached_fault begin start a left number least room now done read tells unfinished =
-    told_next begin start a left now.front number least room now.room done next.ReadFault
+    told_next begin start a left now.buffered number least room now.room done next.ReadFault
     (λ octets rest. FailsFrom begin octets rest done)
     (λ octets ahead rest has says. fails_so begin number least room done now octets ahead rest unfinished has says.0 says.1)
     read tells
@@ -215,12 +215,12 @@ runs_cut begin may_have places ending source_failed start left old new done text
 -- ---- whole epochs alone
 
 -- octets that begin with lines begin with the first of them
-pub begins_front : (begin : Beginning) (octets : List ℕ) (done front back : List Line) → done ≡ front ++ back → BeginsFrom begin octets done
-    → BeginsFrom begin octets front
-begins_front begin octets done front back parts begins = (
+pub begins_prefix : (begin : Beginning) (octets : List ℕ) (done prefix back : List Line) → done ≡ prefix ++ back → BeginsFrom begin octets done
+    → BeginsFrom begin octets prefix
+begins_prefix begin octets done prefix back parts begins = (
   after_lines back begins.0,
   begins.1 ∙ ap (λ lines. after_lines lines begins.0) parts
-      ∙ ap (λ lines. record { lines = lines; stop = begins.0.stop }) (append_assoc front back begins.0.lines),
+      ∙ ap (λ lines. record { lines = lines; stop = begins.0.stop }) (append_assoc prefix back begins.0.lines),
 )
 
 epochs_of_cut : (begin : Beginning) (may_have : Input → Report → Type 0) (places : Bool) (octets : List ℕ) (closed : List (List Line))
@@ -242,7 +242,7 @@ pub cut_text : (begin : Beginning) (may_have : Input → Report → Type 0) (pla
     → SaysEpochs may_have places closed text → IsEpochsText may_have places (input_from begin octets) text
 cut_text begin may_have places octets done closed open_ text cut begins said =
     epochs_of_cut begin may_have places octets closed text (cut_closed done closed open_ cut)
-    (begins_front begin octets done (lines_in closed) open_ cut.parts begins) said
+    (begins_prefix begin octets done (lines_in closed) open_ cut.parts begins) said
 
 -- no memory is left for what stands behind them
 pub runs_unwritten : (begin : Beginning) (may_have : Input → Report → Type 0) (places : Bool) (source_failed : Type 0)

@@ -12,21 +12,21 @@ use Rattle.report_lines.specs.declared.entry.LineEntry.{LineEntry}
 use Rattle.lawful_run.specs.Report.{EpochReport, epoch_entries, texts_of}
 use Rattle.trace_run.specs.Entries.{charges_text, closing_text, line_of, lines_text}
 
-pub texts-append : (places : Bool) (front back : List Entry)
-    → texts_of places (front ++ back) ≡ texts_of places front ++ texts_of places back
-texts-append places front back = flat_map-append (λ told. entry_text (shown places told) ++ 10 ∷ []) front back
+pub texts-append : (places : Bool) (prefix back : List Entry)
+    → texts_of places (prefix ++ back) ≡ texts_of places prefix ++ texts_of places back
+texts-append places prefix back = flat_map-append (λ told. entry_text (shown places told) ++ 10 ∷ []) prefix back
 
-pub lines-append : (places : Bool) (front back : List LineEntry)
-    → lines_text places (front ++ back) ≡ lines_text places front ++ lines_text places back
-lines-append places front back =
-    ap (texts_of places) (map-append entry.Line front back)
-    ∙ texts-append places (map entry.Line front) (map entry.Line back)
+pub lines-append : (places : Bool) (prefix back : List LineEntry)
+    → lines_text places (prefix ++ back) ≡ lines_text places prefix ++ lines_text places back
+lines-append places prefix back =
+    ap (texts_of places) (map-append entry.Line prefix back)
+    ∙ texts-append places (map entry.Line prefix) (map entry.Line back)
 
-pub charges-append : (places : Bool) (front back : List ChargeEntry)
-    → charges_text places (front ++ back) ≡ charges_text places front ++ charges_text places back
-charges-append places front back =
-    ap (texts_of places) (map-append entry.Charge front back)
-    ∙ texts-append places (map entry.Charge front) (map entry.Charge back)
+pub charges-append : (places : Bool) (prefix back : List ChargeEntry)
+    → charges_text places (prefix ++ back) ≡ charges_text places prefix ++ charges_text places back
+charges-append places prefix back =
+    ap (texts_of places) (map-append entry.Charge prefix back)
+    ∙ texts-append places (map entry.Charge prefix) (map entry.Charge back)
 
 -- an epoch's text, and the texts of epochs with one more
 pub epoch_text : (places : Bool) (told : EpochReport)
@@ -47,38 +47,38 @@ epochs_text-push places told now =
     ∙ ap (λ more. texts_of places (flat_map epoch_entries told) ++ more) (epoch_text places now)
 
 -- three texts, one behind the other
-pub behind_each : (front note effects rows one two three : List ℕ) → one ≡ front ++ note → two ≡ one ++ effects
-    → three ≡ two ++ rows → three ≡ front ++ (note ++ (effects ++ rows))
-behind_each front note effects rows one two three first second third =
+pub behind_each : (prefix note effects rows one two three : List ℕ) → one ≡ prefix ++ note → two ≡ one ++ effects
+    → three ≡ two ++ rows → three ≡ prefix ++ (note ++ (effects ++ rows))
+behind_each prefix note effects rows one two three first second third =
     third ∙ ap (λ text. text ++ rows) (second ∙ ap (λ text. text ++ effects) first)
-    ∙ append_assoc (front ++ note) effects rows ∙ append_assoc front note (effects ++ rows)
+    ∙ append_assoc (prefix ++ note) effects rows ∙ append_assoc prefix note (effects ++ rows)
 
 -- charges of one more item
-pub charges_more : {X : Type 0} (places : Bool) (charges : X → List ChargeEntry) (front old new : List ℕ)
+pub charges_more : {X : Type 0} (places : Bool) (charges : X → List ChargeEntry) (prefix old new : List ℕ)
     (items : List X) (i : ℕ) (item : X) → i < length items → item ≡ get_or items i item
-    → old ≡ front ++ charges_text places (flat_map charges (take i items))
+    → old ≡ prefix ++ charges_text places (flat_map charges (take i items))
     → new ≡ old ++ charges_text places (charges item)
-    → new ≡ front ++ charges_text places (flat_map charges (take (i + 1) items))
-charges_more places charges front old new items i item within is so_far more =
+    → new ≡ prefix ++ charges_text places (flat_map charges (take (i + 1) items))
+charges_more places charges prefix old new items i item within is so_far more =
     more ∙ ap (λ text. text ++ charges_text places (charges item)) so_far
-    ∙ append_assoc front (charges_text places (flat_map charges (take i items))) (charges_text places (charges item))
-    ∙ ap (λ text. front ++ text) (sym (charges-append places (flat_map charges (take i items)) (charges item))
+    ∙ append_assoc prefix (charges_text places (flat_map charges (take i items))) (charges_text places (charges item))
+    ∙ ap (λ text. prefix ++ text) (sym (charges-append places (flat_map charges (take i items)) (charges item))
     ∙ ap (λ last. charges_text places (flat_map charges (take i items) ++ last))
     (sym (append-nil (charges item)) ∙ ap (λ x. charges x ++ []) is)
     ∙ ap (charges_text places) (sym (flat_map-append charges (take i items) (get_or items i item ∷ []))
     ∙ ap (flat_map charges) (sym (take_more items i item within))))
 
 -- one record more
-pub rows_more : (places : Bool) (slot : ℕ) (front old new : List ℕ) (rows : List ChargeRow) (i : ℕ) (row : ChargeRow)
+pub rows_more : (places : Bool) (slot : ℕ) (prefix old new : List ℕ) (rows : List ChargeRow) (i : ℕ) (row : ChargeRow)
     → i < length rows → row ≡ get_or rows i row
-    → old ≡ front ++ charges_text places (map (R slot) (take i rows))
+    → old ≡ prefix ++ charges_text places (map (R slot) (take i rows))
     → new ≡ old ++ line_of (entry.Charge (R slot row))
-    → new ≡ front ++ charges_text places (map (R slot) (take (i + 1) rows))
-rows_more places slot front old new rows i row within is so_far more =
+    → new ≡ prefix ++ charges_text places (map (R slot) (take (i + 1) rows))
+rows_more places slot prefix old new rows i row within is so_far more =
     more ∙ ap (λ text. old ++ text) (sym (append-nil (line_of (entry.Charge (R slot row)))))
     ∙ ap (λ text. text ++ charges_text places (R slot row ∷ [])) so_far
-    ∙ append_assoc front (charges_text places (map (R slot) (take i rows))) (charges_text places (R slot row ∷ []))
-    ∙ ap (λ text. front ++ text) (sym (charges-append places (map (R slot) (take i rows)) (R slot row ∷ []))
+    ∙ append_assoc prefix (charges_text places (map (R slot) (take i rows))) (charges_text places (R slot row ∷ []))
+    ∙ ap (λ text. prefix ++ text) (sym (charges-append places (map (R slot) (take i rows)) (R slot row ∷ []))
     ∙ ap (λ last. charges_text places (map (R slot) (take i rows) ++ R slot last ∷ [])) is
     ∙ ap (charges_text places) (sym (map-append (R slot) (take i rows) (get_or rows i row ∷ []))
     ∙ ap (map (R slot)) (sym (take_more rows i row within))))

@@ -76,8 +76,8 @@ tells_given number least room after (Some octets) (Some rest) text last line len
 text_some : (line : Line) → 0 < length (line_text line)
 text_some line = behind_space (decimal line.moment) (joined (kind_word line.kind ∷ arguments line.kind))
   where
-    behind_space : (front rest : List ℕ) → 0 < length (front ++ 32 ∷ rest)
-    behind_space front rest = omega (arith, length-append front (32 ∷ rest))
+    behind_space : (prefix rest : List ℕ) → 0 < length (prefix ++ 32 ∷ rest)
+    behind_space prefix rest = omega (arith, length-append prefix (32 ∷ rest))
 
 -- and takes room
 pub takes_given : (room after : ℕ) (octets rest text : List ℕ) (last : Bool) (line : Line) (len : ℕ)
@@ -168,7 +168,7 @@ pub tells_long : (number least room after : ℕ) (octets rest : Option (List ℕ
 tells_long number least room after None rest text last reads = tt
 tells_long number least room after (Some octets) None text last reads = absurd reads
 tells_long number least room after (Some octets) (Some rest) text last reads =
-    rw (reads.1.parts) (line_long room number least reads.1.front reads.1.rest reads.1.no_newline reads.1.long
+    rw (reads.1.parts) (line_long room number least reads.1.prefix reads.1.rest reads.1.no_newline reads.1.long
     reads.1.within)
 
 pub tells_big : (number least room after : ℕ) (octets rest : Option (List ℕ)) (text : List ℕ) (last : Bool)
@@ -176,7 +176,7 @@ pub tells_big : (number least room after : ℕ) (octets rest : Option (List ℕ)
 tells_big number least room after None rest text last reads = tt
 tells_big number least room after (Some octets) None text last reads = absurd reads
 tells_big number least room after (Some octets) (Some rest) text last reads =
-    rw (reads.1.parts, ← reads.1.full) (input_big number least reads.1.front reads.1.rest reads.1.no_newline
+    rw (reads.1.parts, ← reads.1.full) (input_big number least reads.1.prefix reads.1.rest reads.1.no_newline
     reads.1.short)
 
 pub tells_fault : (number least room after : ℕ) (octets rest : Option (List ℕ)) (text : List ℕ) (last : Bool)

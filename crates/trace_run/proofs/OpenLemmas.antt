@@ -50,10 +50,10 @@ counted_push first (suc slots) has =
     ∙ sym (append_assoc (has first) (flat_map has (counted (first + 1) slots)) (has (first + 1 + slots)))
     ∙ ap (λ s. flat_map has (counted first (suc slots)) ++ has s) same
 
-pub opens_more : (places : Bool) (slots : ℕ) (has : ℕ → List ChargeEntry) (report front : List ℕ)
-    → front ≡ report ++ charges_text places (by_slot slots has)
-    → front ++ charges_text places (has slots) ≡ report ++ charges_text places (by_slot (slots + 1) has)
-opens_more places slots has report front is =
+pub opens_more : (places : Bool) (slots : ℕ) (has : ℕ → List ChargeEntry) (report prefix : List ℕ)
+    → prefix ≡ report ++ charges_text places (by_slot slots has)
+    → prefix ++ charges_text places (has slots) ≡ report ++ charges_text places (by_slot (slots + 1) has)
+opens_more places slots has report prefix is =
     let one : suc slots ≡ slots + 1 = omega arith in
     let none : 0 + slots ≡ slots = omega arith in
     let text : charges_text places (by_slot (slots + 1) has)

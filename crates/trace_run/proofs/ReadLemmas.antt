@@ -97,12 +97,12 @@ told_next begin (Some octets) (Some ahead) (Some rest) held number least room af
 
 -- the octets held are an unfinished line
 pub fails_so : (begin : Beginning) (number least room : ℕ) (done : List Line) (now : Held) (octets ahead rest : List ℕ) → IsUnfinished now
-    → HasRead begin octets ahead number least room done → now.front ++ rest ≡ ahead → now.room ≡ room → FailsFrom begin octets rest done
+    → HasRead begin octets ahead number least room done → now.buffered ++ rest ≡ ahead → now.room ≡ room → FailsFrom begin octets rest done
 fails_so begin number least room done now octets ahead rest unfinished read stays same = record {
   taken = record {
     whole = read.gone;
-    unfinished = now.front;
-    parts = read.parts ∙ ap (λ t. read.gone ++ t) (sym stays) ∙ sym (append_assoc read.gone now.front rest);
+    unfinished = now.buffered;
+    parts = read.parts ∙ ap (λ t. read.gone ++ t) (sym stays) ∙ sym (append_assoc read.gone now.buffered rest);
     lines = read.lines;
     no_newline = unfinished.no_newline;
     short = unfinished.short;

@@ -2,7 +2,7 @@
 use Rattle.std.proofs.Common.{◌≡◌, ℕ, ◌+◌, ◌<◌, ◌^◌, Bool, true, false, if◌then◌else◌, List, [], ◌∷◌, ◌++◌, Option, Result, Ok, Err, OnOk, OnErr, length, sym, ap, subst, ◌∙◌, arith, append_assoc, length-append}
 use Rattle.std.specs.Io.KnownBytes.{Appends}
 use Rattle.std.proofs.KnownBytes.{Appends-trans}
-use Rattle.pc_outside.specs.Fronts.{AppendsPrefix}
+use Rattle.pc_outside.specs.Prefixes.{AppendsPrefix}
 use Rattle.trace_lines.specs.Epochs.{ends_epoch, octets_in}
 use Rattle.trace_lines.specs.Input.{Input}
 use Rattle.trace_lines.specs.Line.{Line}
@@ -136,11 +136,11 @@ breaks_off number result may_have places represents size text done sent old mid 
       closed = standing.closed;
       open_ = standing.open_;
       cut = standing.cut;
-      sent = sent ++ cut.front;
+      sent = sent ++ cut.prefix;
       more = cut.rest;
-      written = Appends-trans old mid new sent cut.front written cut.appended;
+      written = Appends-trans old mid new sent cut.prefix written cut.appended;
       said = subst (SaysEpochs may_have places standing.closed)
-          (ap (λ t. sent ++ t) cut.parts ∙ sym (append_assoc sent cut.front cut.rest)) standing.said;
+          (ap (λ t. sent ++ t) cut.parts ∙ sym (append_assoc sent cut.prefix cut.rest)) standing.said;
     }
 
 -- no memory was left behind the last lines
@@ -178,10 +178,10 @@ pub ends_cut : (begin : Beginning) (may_have : Input → Report → Type 0) (pla
     → IsDueFrom begin.number may_have places ending done (sent ++ text) → Appends old mid sent → AppendsPrefix mid new text
     → RunsFrom begin may_have places status.WriteFault source_failed start left old new
 ends_cut begin may_have places ending source_failed start left old mid new done sent text failed reached due written cut =
-    runs_cut begin may_have places ending source_failed start left old new done (sent ++ cut.front) cut.rest failed reached
+    runs_cut begin may_have places ending source_failed start left old new done (sent ++ cut.prefix) cut.rest failed reached
     (subst (IsDueFrom begin.number may_have places ending done)
-    (ap (λ t. sent ++ t) cut.parts ∙ sym (append_assoc sent cut.front cut.rest)) due)
-    (Appends-trans old mid new sent cut.front written cut.appended)
+    (ap (λ t. sent ++ t) cut.parts ∙ sym (append_assoc sent cut.prefix cut.rest)) due)
+    (Appends-trans old mid new sent cut.prefix written cut.appended)
 
 -- it was cut before
 pub cuts_run : (begin : Beginning) {T : Type 0} (may_have : Input → Report → Type 0) (places : Bool)

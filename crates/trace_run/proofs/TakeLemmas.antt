@@ -1,5 +1,5 @@
 -- Lines are taken one behind another, until no more come or the run is cut.
-use Rattle.std.proofs.Common.{◌≡◌, ℕ, ◌+◌, ◌≤◌, ◌^◌, Bool, false, List, [], ◌∷◌, ◌++◌, Option, None, Some, length, Result, Ok, Err, IfErr, IsErrAnd, refl, sym, ap, ◌∙◌, subst, arith, length-append}
+use Rattle.std.proofs.Common.{◌≡◌, ℕ, ◌+◌, ◌≤◌, ◌^◌, Bool, List, [], ◌∷◌, ◌++◌, Option, None, Some, length, Result, Ok, Err, IfErr, IsErrAnd, refl, sym, ap, ◌∙◌, subst, arith, length-append}
 use Rattle.std.specs.Prelude.{IfOk}
 use Rattle.std.specs.Io.KnownBytes.{prepend_known}
 use Rattle.pc_outside.specs.Held.{Held}
@@ -142,10 +142,10 @@ if_err P Q (Err e) follows is = follows e is
 -- ---- from the first octet of an input
 
 -- a reader that nothing was read into has all of a source ahead
-pub fresh_ahead : (buf : Held) (left : Option (List ℕ)) → (buf.front ≡ []) × (buf.room ≡ 2 ^ 40)
-    → (prepend_known buf.front left ≡ left) × (buf.room ≡ 2 ^ 40)
+pub fresh_ahead : (buf : Held) (left : Option (List ℕ)) → (buf.buffered ≡ []) × (buf.room ≡ 2 ^ 40)
+    → (prepend_known buf.buffered left ≡ left) × (buf.room ≡ 2 ^ 40)
 fresh_ahead buf left is =
-    (ap (λ (front : List ℕ). prepend_known front left) is.0 ∙ all_of left, is.1)
+    (ap (λ (prefix : List ℕ). prepend_known prefix left) is.0 ∙ all_of left, is.1)
   where
     all_of : (left : Option (List ℕ)) → prepend_known [] left ≡ left
     all_of None = refl
@@ -153,32 +153,32 @@ fresh_ahead buf left is =
 
 pub lines_end_here : (represents : List Line → ℕ → Option (List ℕ) → Option (List ℕ) → Type 0)
     (r : Result (Ending × ℕ) Unwritten) (buf : Held) (start left old new : Option (List ℕ))
-    → (buf.front ≡ []) × (buf.room ≡ 2 ^ 40)
-    → IfOk r (λ end. LinesEndFrom (behind buf.room 0 0) represents end.0 end.1 (prepend_known buf.front start) left old new)
+    → (buf.buffered ≡ []) × (buf.room ≡ 2 ^ 40)
+    → IfOk r (λ end. LinesEndFrom (behind buf.room 0 0) represents end.0 end.1 (prepend_known buf.buffered start) left old new)
     → IfOk r (λ end. LinesEndFrom whole_input represents end.0 end.1 start left old new)
 lines_end_here represents r buf start left old new is ends =
     let ahead = fresh_ahead buf start is in
     subst (λ a. IfOk r (λ end. LinesEndFrom whole_input represents end.0 end.1 a left old new)) ahead.0
-    (subst (λ n. IfOk r (λ end. LinesEndFrom (behind n 0 0) represents end.0 end.1 (prepend_known buf.front start) left
+    (subst (λ n. IfOk r (λ end. LinesEndFrom (behind n 0 0) represents end.0 end.1 (prepend_known buf.buffered start) left
     old new)) ahead.1 ends)
 
 pub lines_cut_here : {T : Type 0} (represents : T → List Line → ℕ → Option (List ℕ) → Option (List ℕ) → Type 0)
     (breaks : List Line → Option (List ℕ) → Option (List ℕ) → Type 0) (r : Result (Ending × ℕ) Unwritten) (buf : Held)
-    (start left old new : Option (List ℕ)) → (buf.front ≡ []) × (buf.room ≡ 2 ^ 40)
-    → IfErr r (λ why. LinesCutFrom (behind buf.room 0 0) represents breaks why (prepend_known buf.front start) left old new)
+    (start left old new : Option (List ℕ)) → (buf.buffered ≡ []) × (buf.room ≡ 2 ^ 40)
+    → IfErr r (λ why. LinesCutFrom (behind buf.room 0 0) represents breaks why (prepend_known buf.buffered start) left old new)
     → IfErr r (λ why. LinesCutFrom whole_input represents breaks why start left old new)
 lines_cut_here represents breaks r buf start left old new is cuts =
     let ahead = fresh_ahead buf start is in
     subst (λ a. IfErr r (λ why. LinesCutFrom whole_input represents breaks why a left old new)) ahead.0
-    (subst (λ n. IfErr r (λ why. LinesCutFrom (behind n 0 0) represents breaks why (prepend_known buf.front start) left
+    (subst (λ n. IfErr r (λ why. LinesCutFrom (behind n 0 0) represents breaks why (prepend_known buf.buffered start) left
     old new)) ahead.1 cuts)
 
 pub runs_here : (may_have : Input → Report → Type 0) (places : Bool) (ending : Status) (failed : Type 0) (buf : Held)
-    (start left old new : Option (List ℕ)) → (buf.front ≡ []) × (buf.room ≡ 2 ^ 40)
-    → RunsFrom (behind buf.room 0 0) may_have places ending failed (prepend_known buf.front start) left old new
+    (start left old new : Option (List ℕ)) → (buf.buffered ≡ []) × (buf.room ≡ 2 ^ 40)
+    → RunsFrom (behind buf.room 0 0) may_have places ending failed (prepend_known buf.buffered start) left old new
     → RunsFrom whole_input may_have places ending failed start left old new
 runs_here may_have places ending failed buf start left old new is runs =
     let ahead = fresh_ahead buf start is in
     subst (λ a. RunsFrom whole_input may_have places ending failed a left old new) ahead.0
-    (subst (λ n. RunsFrom (behind n 0 0) may_have places ending failed (prepend_known buf.front start) left old new)
+    (subst (λ n. RunsFrom (behind n 0 0) may_have places ending failed (prepend_known buf.buffered start) left old new)
     ahead.1 runs)

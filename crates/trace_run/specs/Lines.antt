@@ -1,5 +1,5 @@
 -- How far the lines of an input were read.
-use Rattle.std.specs.Prelude.{◌≡◌, ℕ, ◌+◌, ◌^◌, List, [], ◌++◌, length}
+use Rattle.std.specs.Prelude.{◌≡◌, ℕ, ◌+◌, List, [], ◌++◌, length}
 use Rattle.trace_lines.specs.Input.{Input, Stop, bad, long, big, ended, after_lines, input_within}
 use Rattle.trace_lines.specs.Line.{Line}
 use Rattle.trace_run.specs.declared.ending.Ending.{Ending}

@@ -1,5 +1,5 @@
 -- The report of a trace, and what a status says of it.
-use Rattle.std.specs.Prelude.{◌≡◌, ℕ, ◌+◌, ◌^◌, ◌<◌, ◌≤◌, ◌⊎◌, All, Bool, true, List, [], ◌∷◌}
+use Rattle.std.specs.Prelude.{◌≡◌, ℕ, ◌+◌, ◌<◌, ◌≤◌, ◌⊎◌, All, Bool, true, List, [], ◌∷◌}
 use Rattle.std.specs.Prelude.{◌++◌, length, Option, flat_map}
 use Rattle.std.specs.Io.KnownBytes.{Appends}
 use Rattle.pc_outside.specs.Line.{NoNewline}
@@ -39,7 +39,7 @@ pub record IsEpochsText (may_have : Input → Report → Type 0) (places : Bool)
 
 -- no octets, or octets that end with a newline
 abbrev pub IsWholeLines : List ℕ → Type 0
-IsWholeLines octets = (octets ≡ []) ⊎ ((front : List ℕ) × (octets ≡ front ++ newline ∷ []))
+IsWholeLines octets = (octets ≡ []) ⊎ ((prefix : List ℕ) × (octets ≡ prefix ++ newline ∷ []))
 
 -- What was taken of the octets is whole lines and an unfinished one, and these are left. The unfinished one isn't too
 -- long, and not all octets were taken that are looked at.

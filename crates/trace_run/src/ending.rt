@@ -2,7 +2,7 @@
 ghost use Rattle.std.specs.Prelude.{◌≡◌, ◌≤◌, [], Err, OnOk, OnErr};
 ghost use Rattle.std.specs.Io.KnownBytes.{Appends};
 ghost use Rattle.pc_outside.specs.Faults.{Rises};
-ghost use Rattle.pc_outside.specs.Fronts.{AppendsPrefix};
+ghost use Rattle.pc_outside.specs.Prefixes.{AppendsPrefix};
 ghost use Rattle.trace_run.specs.Noted.{bad_at};
 ghost use Rattle.trace_run.specs.Status.{status_at, status_without};
 

@@ -43,8 +43,8 @@ pub trait LineReader {
         requires { is_ready self.old }
 
         ensures tells { Tells (said_in result line.new) number least (holds self.old).room (holds self.new).room
-            (prepend_known (holds self.old).front (S.left source.old))
-            (prepend_known (holds self.new).front (S.left source.new)) }
+            (prepend_known (holds self.old).buffered (S.left source.old))
+            (prepend_known (holds self.new).buffered (S.left source.new)) }
         ensures room { TakesRoom (said_in result line.new) (holds self.old).room (holds self.new).room }
         ensures given { Gives (said_in result line.new) number least }
         ensures ready { is_ready self.new }
@@ -82,8 +82,8 @@ pub fn next_line<S: Source>(
     least: Moment,
 ) -> Next
     ensures tells { Tells (said_in result line.new) number least buf.old.room buf.new.room
-        (prepend_known buf.old.front (S.left source.old))
-        (prepend_known buf.new.front (S.left source.new)) }
+        (prepend_known buf.old.buffered (S.left source.old))
+        (prepend_known buf.new.buffered (S.left source.new)) }
     ensures room { TakesRoom (said_in result line.new) buf.old.room buf.new.room }
     ensures given { Gives (said_in result line.new) number least }
 

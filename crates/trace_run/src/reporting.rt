@@ -1,6 +1,6 @@
 //! The report of a trace, told epoch by epoch.
 ghost use Rattle.std.specs.Io.KnownBytes.{prepend_known};
-ghost use Rattle.std.specs.Prelude.{◌≡◌, ◌≤◌, ◌<◌, ◌+◌, ◌^◌, ◌∷◌, ◌++◌, [], ℕ, Bool, List, Option, length, Ok, OnOk};
+ghost use Rattle.std.specs.Prelude.{◌≡◌, ◌≤◌, ◌<◌, ◌+◌, ◌^◌, ◌∷◌, ◌++◌, [], ℕ, Bool, List, length, Ok, OnOk};
 ghost use Rattle.std.specs.Prelude.{IfOk};
 ghost use Rattle.pc_outside.specs.Faults.{Rises};
 ghost use Rattle.pc_outside.specs.Limits.{input_max, line_max};
@@ -41,19 +41,19 @@ pub trait Reporter: Drop {
     /// text is the latter so far.
     ghost represents: { Self → Self → List Line → ℕ → List (List Line) → List Line → List ℕ → List ℕ → Type 0 };
 
-    /// Takes the next line.
-    fn take(&mut self, line: &TraceLine, text: &mut Text) -> Result<(), AllocError>
+    /// Takes the next line. It may leave any other in its place, so that a line that is kept needn't be copied.
+    fn take(&mut self, line: &mut TraceLine, text: &mut Text) -> Result<(), AllocError>
         requires { (first : Self) × (done : List Line) × (latest : ℕ) × (closed : List (List Line))
             × (open_ : List Line) × (sent : List ℕ)
             × represents first self.old done latest closed open_ sent text.old
-            × IsNextFrom (begins first) done latest line.now }
+            × IsNextFrom (begins first) done latest line.old }
 
         ensures { (first : Self) (done : List Line) (latest : ℕ) (closed : List (List Line))
             (open_ : List Line) (sent : List ℕ)
             → represents first self.old done latest closed open_ sent text.old
-            → IsNextFrom (begins first) done latest line.now
-            → OnOk result (represents first self.new (done ++ line.now ∷ []) line.now.moment closed
-            (open_ ++ line.now ∷ []) sent text.new) };
+            → IsNextFrom (begins first) done latest line.old
+            → OnOk result (represents first self.new (done ++ line.old ∷ []) line.old.moment closed
+            (open_ ++ line.old ∷ []) sent text.new) };
 
     /// Ends an epoch that its last line ended: the text is whole then.
     fn close(&mut self, text: &mut Text) -> Result<(), AllocError>
@@ -126,23 +126,23 @@ impl<R: Reporter> Epochs<R> {
     }
 
     /// Answers a line, whose text has this length: whether it ends its epoch. Then the text is that of the whole
-    /// epoch, and is to be emptied.
+    /// epoch, and is to be emptied. The reporter may leave any other line in its place.
     #[inline(always)]
-    pub fn answer(&mut self, line: &TraceLine, len: usize) -> Result<bool, AllocError>
+    pub fn answer(&mut self, line: &mut TraceLine, len: usize) -> Result<bool, AllocError>
         requires next { (first : R) × (done : List Line) × (latest : ℕ) × (sent : List ℕ)
             × StandingFrom (R.begins first) (R.may_have first) (R.places first)
             (R.represents first self.old.reporter done latest) self.old.size self.old.text done sent
-            × IsNextFrom (R.begins first) done latest line.now }
-        requires long { len ≡ length (line_text line.now) }
+            × IsNextFrom (R.begins first) done latest line.old }
+        requires long { len ≡ length (line_text line.old) }
         requires short { len ≤ line_max }
 
         ensures { (first : R) (done : List Line) (latest : ℕ) (sent : List ℕ)
             → StandingFrom (R.begins first) (R.may_have first) (R.places first)
             (R.represents first self.old.reporter done latest) self.old.size self.old.text done sent
-            → IsNextFrom (R.begins first) done latest line.now
+            → IsNextFrom (R.begins first) done latest line.old
             → IfOk result (λ ends. AnsweredFrom (R.begins first) ends (R.may_have first) (R.places first)
-            (R.represents first self.new.reporter (done ++ line.now ∷ []) line.now.moment) self.new.size self.new.text
-            (done ++ line.now ∷ []) sent) }
+            (R.represents first self.new.reporter (done ++ line.old ∷ []) line.old.moment) self.new.size self.new.text
+            (done ++ line.old ∷ []) sent) }
     {
         let ends = self.size.take(line, len as u64);
         self.reporter.take(line, &mut self.text)?;
@@ -185,7 +185,7 @@ impl<R: Reporter> LineTaker for Epochs<R> {
     #[inline(always)]
     fn take<K: Sink>(
         &mut self,
-        line: &TraceLine,
+        line: &mut TraceLine,
         len: usize,
         sink: &mut K,
     ) -> Result<(), Unwritten> {
@@ -233,7 +233,7 @@ pub fn run_report_by<L: LineReader, S: Source, K: Sink, R: Reporter>(
     sink: &mut K,
     reporter: R,
 ) -> Status
-    requires reader { ((L.holds reader.old).front ≡ []) × ((L.holds reader.old).room ≡ input_max) }
+    requires reader { ((L.holds reader.old).buffered ≡ []) × ((L.holds reader.old).room ≡ input_max) }
     requires ready { L.is_ready reader.old }
     requires first { R.represents reporter reporter [] 0 [] [] [] [] }
     requires begins { R.begins reporter ≡ 1 }
@@ -274,7 +274,7 @@ pub fn run_report_behind<L: LineReader, S: Source, K: Sink, R: Reporter>(
 
     ensures runs { RunsFrom (behind (L.holds reader.old).room lines least) (R.may_have reporter)
         (R.places reporter) result (Rises (S.faults source.old) (S.faults source.new))
-        (prepend_known (L.holds reader.old).front (S.left source.old)) (S.left source.new)
+        (prepend_known (L.holds reader.old).buffered (S.left source.old)) (S.left source.new)
         (K.written sink.old) (K.written sink.new) }
     ensures no_usage { result ≡ Status.Usage → ⊥ }
 

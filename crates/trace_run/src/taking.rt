@@ -28,22 +28,28 @@ pub trait LineTaker {
     /// By what it was before the first line: the sink failed at the last of these lines.
     ghost breaks: { Self → List Line → Option (List ℕ) → Option (List ℕ) → Type 0 };
 
-    /// Takes the next line, whose text has this length. After an error it may only be dropped.
-    fn take<K: Sink>(&mut self, line: &TraceLine, len: usize, sink: &mut K) -> Result<(), Unwritten>
+    /// Takes the next line, whose text has this length; it may leave any other in its place. After an error it may
+    /// only be dropped.
+    fn take<K: Sink>(
+        &mut self,
+        line: &mut TraceLine,
+        len: usize,
+        sink: &mut K,
+    ) -> Result<(), Unwritten>
         requires next { (first : Self) × (done : List Line) × (latest : ℕ) × (old : Option (List ℕ))
             × represents first self.old done latest old (K.written sink.old)
-            × IsNextFrom (begins first) done latest line.now }
-        requires long { len ≡ length (line_text line.now) }
+            × IsNextFrom (begins first) done latest line.old }
+        requires long { len ≡ length (line_text line.old) }
         requires short { len ≤ line_max }
 
         ensures taken { (first : Self) (done : List Line) (latest : ℕ) (old : Option (List ℕ))
             → represents first self.old done latest old (K.written sink.old)
-            → IsNextFrom (begins first) done latest line.now
-            → OnOk result (represents first self.new (done ++ line.now ∷ []) line.now.moment old (K.written sink.new)) }
+            → IsNextFrom (begins first) done latest line.old
+            → OnOk result (represents first self.new (done ++ line.old ∷ []) line.old.moment old (K.written sink.new)) }
         ensures broken { (first : Self) (done : List Line) (latest : ℕ) (old : Option (List ℕ))
             → represents first self.old done latest old (K.written sink.old)
-            → IsNextFrom (begins first) done latest line.now
-            → result ≡ Err Unwritten.WriteFault → breaks first (done ++ line.now ∷ []) old (K.written sink.new) }
+            → IsNextFrom (begins first) done latest line.old
+            → result ≡ Err Unwritten.WriteFault → breaks first (done ++ line.old ∷ []) old (K.written sink.new) }
         ensures kept { result ≡ Err Unwritten.NoMemory → K.written sink.new ≡ K.written sink.old }
 
         ensures later { K.faults sink.old ≤ K.faults sink.new }
@@ -83,7 +89,7 @@ pub fn run_lines_by<L: LineReader, S: Source, K: Sink, T: LineTaker>(
     sink: &mut K,
     taker: &mut T,
 ) -> Result<(Ending, u64), Unwritten>
-    requires reader { ((L.holds reader.old).front ≡ []) × ((L.holds reader.old).room ≡ input_max) }
+    requires reader { ((L.holds reader.old).buffered ≡ []) × ((L.holds reader.old).room ≡ input_max) }
     requires ready { L.is_ready reader.old }
     requires taker { T.represents taker.old taker.old [] 0 (K.written sink.old) (K.written sink.old) }
     requires begins { T.begins taker.old ≡ 1 }
@@ -120,11 +126,11 @@ pub fn run_lines_behind<L: LineReader, S: Source, K: Sink, T: LineTaker>(
     requires room { (L.holds reader.old).room ≤ 2 ^ 40 }
 
     ensures ended { IfOk result (λ end. LinesEndFrom (behind (L.holds reader.old).room lines least)
-        (T.represents taker.old taker.new) end.0 end.1 (prepend_known (L.holds reader.old).front (S.left source.old))
+        (T.represents taker.old taker.new) end.0 end.1 (prepend_known (L.holds reader.old).buffered (S.left source.old))
         (S.left source.new) (K.written sink.old) (K.written sink.new)) }
     ensures cut { IfErr result (λ why. LinesCutFrom (behind (L.holds reader.old).room lines least)
         (T.represents taker.old) (T.breaks taker.old) why
-        (prepend_known (L.holds reader.old).front (S.left source.old)) (S.left source.new) (K.written sink.old)
+        (prepend_known (L.holds reader.old).buffered (S.left source.old)) (S.left source.new) (K.written sink.old)
         (K.written sink.new)) }
 
     ensures source_later { S.faults source.old ≤ S.faults source.new }
@@ -141,10 +147,10 @@ pub fn run_lines_behind<L: LineReader, S: Source, K: Sink, T: LineTaker>(
             Next::Line { len } => {
                 least = line.moment;
                 lines += 1;
-                taker.take(&line, len, sink)?;
+                taker.take(&mut line, len, sink)?;
             }
             Next::Last { len } => {
-                taker.take(&line, len, sink)?;
+                taker.take(&mut line, len, sink)?;
                 return Ok((Ending::Ended, lines + 1));
             }
             Next::Bad(why) => return Ok((Ending::BadLine(why), lines)),

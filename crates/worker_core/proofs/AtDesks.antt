@@ -1,5 +1,5 @@
 -- What a change of one desk does to all of them.
-use Rattle.std.proofs.Common.{◌≡◌, ◌≢◌, ℕ, ◌+◌, ◌<◌, ◌≤◌, ◌⊎◌, inl, inr, true, false, List, [], ◌∷◌, ◌++◌}
+use Rattle.std.proofs.Common.{◌≡◌, ◌≢◌, ℕ, ◌+◌, ◌<◌, ◌⊎◌, inl, inr, true, false, List, [], ◌∷◌, ◌++◌}
 use Rattle.std.proofs.Common.{length, map, set, get_or, refl, sym, ap, ◌∙◌, subst, arith, length-append}
 use Rattle.std.specs.Prelude.{nat_eq, Option, Some, None, MatchOption}
 use Rattle.std.specs.List.{sum_by}
@@ -7,11 +7,11 @@ use Rattle.std.proofs.lemmas.List.{length-map, length-set, map-set, get_or-map, 
 use Rattle.std.proofs.lemmas.List.Sums.{sum_by-set}
 use Rattle.std.proofs.Math.Seq.{map-set_same}
 use Rattle.std.proofs.lemmas.Bool.{eqb-true, eqb-false}
-use Rattle.lane_core.specs.Ends.{sender_lane, sent, taken, full_answers, raised}
+use Rattle.lane_core.specs.Ends.{sent, taken, full_answers, raised}
 use Rattle.worker_core.specs.declared.desks.LaneDesk.{LaneDesk}
 use Rattle.worker_core.specs.Counts.{Lasts}
 use Rattle.worker_core.specs.Workers.{desk_lanes}
-use Rattle.worker_core.specs.Desks.{lanes_of, homes_of, sent_at, home_at, order_count, fulls_at, room_at, sent_count}
+use Rattle.worker_core.specs.Desks.{lanes_of, homes_of, sent_at, home_at, order_count, fulls_at}
 use Rattle.worker_core.specs.Desks.{DeskChanged, Given, Refused, Taken}
 use Rattle.worker_core.proofs.Arrivals.{sum_by-through}
 use Rattle.worker_core.proofs.Rising.{lasts_raised}
@@ -128,13 +128,6 @@ module _ {O H : Type 0} (slice : ℕ) (old new : List (LaneDesk O H)) (refused :
       let g : LaneDesk O H → ℕ = λ desk. full_answers desk.orders in
       at_now slice refused.before refused.now old new refused.desk g 0 ∙ refused.fulls
       ∙ ap raised (sym (at_before slice refused.before refused.now old new refused.desk g 0))
-
-  pub refused_filled : room_at old slice ≤ sent_count old slice
-  refused_filled =
-      let a = at_before slice refused.before refused.now old new refused.desk
-      (λ desk. (sender_lane desk.orders).room) 0 in
-      let b = at_before slice refused.before refused.now old new refused.desk order_count 0 in
-      let c = refused.filled in omega arith
 
   pub refused_raised : (d : ℕ) → (fulls_at new d ≡ fulls_at old d) ⊎ (fulls_at new d ≡ raised (fulls_at old d))
   refused_raised d = elim (nat_eq d slice) as (λ b. nat_eq d slice ≡ b → (fulls_at new d ≡ fulls_at old d)

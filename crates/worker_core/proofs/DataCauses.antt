@@ -1,23 +1,23 @@
 -- Why a turn worked, or was idle, step by step.
-use Rattle.std.proofs.Common.{◌≡◌, ◌≢◌, ℕ, ◌+◌, ◌<◌, ◌≤◌, ◌⊎◌, inl, inr, Bool, true, false, true≢false, cond, List}
+use Rattle.std.proofs.Common.{◌≡◌, ◌≢◌, ℕ, ◌+◌, ◌<◌, ◌⊎◌, inl, inr, Bool, true, false, true≢false, cond, List}
 use Rattle.std.proofs.Common.{[], ◌∷◌, ◌++◌, length, map, Some, None, refl, sym, ap, ◌∙◌, subst, arith}
-use Rattle.std.specs.Prelude.{nat_lt, count_by, ◌||◌, Result, Ok, Err}
+use Rattle.std.specs.Prelude.{nat_lt, count_by, Result, Ok, Err}
 use Rattle.std.specs.Option.{option_to_list}
 use Rattle.std.proofs.lemmas.List.Sums.{sum_by_push}
 use Rattle.std.proofs.lemmas.List.{length-map}
 use Rattle.std.proofs.lemmas.Bool.{ltb-true, ltb-false}
 use Rattle.lane_core.specs.declared.did.Did.{Did}
 use Rattle.worker_core.specs.declared.data_order.DataOrder.{DataOrder}
-use Rattle.worker_core.specs.declared.data_order.DataOrder.TheVariants.{Arrive, Item, Leave}
+use Rattle.worker_core.specs.declared.data_order.DataOrder.TheVariants.{Item}
 use Rattle.worker_core.specs.declared.data_serving.TriedItem.{TriedItem}
 use Rattle.worker_core.specs.declared.data_serving.TriedItem.TheVariants.{Handled, Waits}
 use Rattle.worker_core.specs.declared.data_serving.Step.{Step}
-use Rattle.worker_core.specs.declared.data_serving.Step.TheVariants.{Done, LeftNow, Stopped}
+use Rattle.worker_core.specs.declared.data_serving.Step.TheVariants.{Stopped}
 use Rattle.worker_core.specs.declared.data_serving.Served.{Served}
 use Rattle.worker_core.specs.declared.data_serving.Served.TheVariants as served
 use Rattle.worker_core.specs.declared.data_serving.Sent.{Sent}
 use Rattle.worker_core.specs.declared.data_serving.Sent.TheVariants.{Absent, Home, Refused}
-use Rattle.worker_core.specs.declared.data_serving.OrderTaken.TheVariants.{Nothing, Arrived, Left, Kept}
+use Rattle.worker_core.specs.declared.data_serving.OrderTaken.TheVariants.{Nothing, Left, Kept}
 use Rattle.worker_core.specs.DataOrders.{is_marker, is_item}
 use Rattle.worker_core.specs.DataCounts.{count_at, learnt_count}
 use Rattle.worker_core.specs.Counts.{Rises, Lasts}
@@ -394,21 +394,6 @@ module _ {H I N : Type 0} (name : H → N) (slot_at : N → ℕ) (item_slot : I 
       let home : WentHome old mid = subst (λ (s : Sent). WasSent s old mid) is was in inl
       (home.0, home.1, gone ∙ home.2)
 
-  -- the lane home was full
-  pub refused_idle : (old new : View H I) → WasSent Refused old new → Rested name handled learns old new
-      × HasIdled asks slot item_slot takes old new
-  refused_idle old new sent = (
-    record {
-      gone = sent.4;
-      waiting = sent.6;
-      names = ap (map name) sent.5;
-      lists = ap (map handled) sent.5;
-      counted = ap (map learns) sent.5;
-      taken = inl (sent.3, sent.7);
-    },
-    inl (sent.0, sent.1, sent.2),
-  )
-
   abbrev Does : Step → View H I → View H I → Type 0
   Does step old new = Ordered name slot item_slot handled takes asks learns step old new
 
@@ -453,42 +438,6 @@ module _ {H I N : Type 0} (name : H → N) (slot_at : N → ℕ) (item_slot : I 
               (inr (inr (waits_learnt learnt old new learns_it did))) a),
           λ none. waits_rested learnt first old new none took.4 took.6 (inr (took.0, free, took.1, took.5)) did,
         )
-
-  pub ordered_empty : (old new : View H I) → TookOrder Nothing old new
-      → Ordered name slot item_slot handled takes asks learns (Stopped false) old new
-  ordered_empty old new took = (
-    along_empty old new took,
-    took.1,
-    took.2,
-    (λ learns_it. absurd (true≢false (sym learns_it))),
-    λ none. empty_rested old new took,
-  )
-
-  pub ordered_arrived : (old new : View H I) → TookOrder Arrived old new
-      → Ordered name slot item_slot handled takes asks learns Done old new
-  ordered_arrived old new took =
-      let a = along_marker learns old new (Arrive took.0) refl refl took.1 took.4 in (a.0, took.2, took.3, inl a.1)
-
-  pub ordered_left : (old new : View H I) → TookOrder Left old new
-      → Ordered name slot item_slot handled takes asks learns LeftNow old new
-  ordered_left old new took =
-      let a = along_marker learns old new (Leave took.0) refl refl took.1 took.3 in (a.0, took.2, a.1)
-
-  -- orders are done no more
-  pub stopped_worked : (worked learnt : Bool) (first old new : View H I) → Along learns first old
-      → (worked ≡ true → TookMarker first old ⊎ HandledItem first old ⊎ Learnt learns first old)
-      → Ordered name slot item_slot handled takes asks learns (Stopped learnt) old new → (worked || learnt) ≡ true
-      → TookMarker first new ⊎ HandledItem first new ⊎ Learnt learns first new
-  stopped_worked true learnt first old new before why did any = served_then learns first old new before (why refl) did.0
-  stopped_worked false learnt first old new before why did any = then_served learns first old new before
-      (did.3 any) did.0
-
-  pub stopped_idle : (worked learnt : Bool) (first old new : View H I) → (worked ≡ false → old ≡ first)
-      → Ordered name slot item_slot handled takes asks learns (Stopped learnt) old new → (worked || learnt) ≡ false
-      → NotServed name slot item_slot handled takes asks learns first new
-  stopped_idle true learnt first old new same did none = absurd (true≢false none)
-  stopped_idle false learnt first old new same did none =
-      subst (λ (v : View H I). NotServed name slot item_slot handled takes asks learns v new) (same refl) (did.4 none)
 
 -- what an answer says
 pub stopped_is : {E : Type 0} (b t : Bool) → ◌≡◌ {A = Result Served E} (Ok (served.Stopped b)) (Ok (served.Stopped t))

@@ -169,37 +169,6 @@ steps_low : (cursor len k : ℕ) → k < cursor → steps_to cursor len k ≡ k 
 steps_low cursor len k low = ap (λ b. if b then k - cursor else k + (len - cursor)) (lt-leb cursor k low)
 
 module _ {H : Type 0} (turns works : H → ℕ) (turned_at : H → ℕ → Type 0) (place : ℕ) where
-  -- a half worked before the last was turned
-  pub round_first : (cursor at : ℕ) (first new : List H) → cursor ≤ at → at < length first
-      → AreTurned turns turned_at place cursor (at + 1) first new → WorkedAlone works at first new
-      → WorkedRound turns works turned_at place cursor at first new
-  round_first cursor at first new after within turned worked =
-      let len : ℕ = length first in
-      let there = steps_high cursor len at after in
-      record {
-        worked = worked;
-        turned = λ k low near. elim (nat_lt k cursor) as (λ b. nat_lt k cursor ≡ b
-            → count_at turns new k ≡ raised (count_at turns first k)) [
-              | true ↦ λ e. let below : k < cursor = ltb-true k cursor e in let s =
-                  steps_low cursor len k below in absurd (omega arith)
-              | false ↦ λ e. let above : cursor ≤ k = ltb-false k cursor e in let s = steps_high cursor len k above in
-                  turned.turned k above (omega arith)
-            ] refl;
-        placed = λ k none low near. elim (nat_lt k cursor) as (λ b. nat_lt k cursor ≡ b
-            → turned_at (get_or new k none) place) [
-              | true ↦ λ e. let below : k < cursor = ltb-true k cursor e in let s =
-                  steps_low cursor len k below in absurd (omega arith)
-              | false ↦ λ e. let above : cursor ≤ k = ltb-false k cursor e in let s = steps_high cursor len k above in
-                  turned.placed k none above (omega arith)
-            ] refl;
-        behind = λ k none low far. elim (nat_lt k cursor) as (λ b. nat_lt k cursor ≡ b
-            → get_or new k none ≡ get_or first k none) [
-              | true ↦ λ e. turned.others k none (inl (ltb-true k cursor e))
-              | false ↦ λ e. let above : cursor ≤ k = ltb-false k cursor e in let s = steps_high cursor len k above in
-                  turned.others k none (inr (omega arith))
-            ] refl;
-      }
-
   -- a half before the cursor worked
   pub round_second : (cursor at : ℕ) (first mid new : List H) → at < cursor → cursor ≤ length first
       → length mid ≡ length first

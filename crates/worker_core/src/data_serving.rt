@@ -1,5 +1,5 @@
 //! What a worker does with one half, and what the steps of its turn come to.
-ghost use Rattle.std.specs.Prelude.{◌≡◌, ◌≢◌, ◌≤◌, ◌<◌, ◌+◌, ◌⊎◌, ◌∷◌, ◌++◌};
+ghost use Rattle.std.specs.Prelude.{◌≡◌, ◌≢◌, ◌<◌, ◌⊎◌};
 ghost use Rattle.std.specs.Prelude.{true, false, Ok, OnErr, IfOk, vec_len};
 ghost use Rattle.worker_core.specs.DataPlaces.{before_here};
 ghost use Rattle.worker_core.specs.DataTurns.{wrapped, cursor_without};

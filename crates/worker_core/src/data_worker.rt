@@ -1,5 +1,5 @@
 //! A worker of a slice's lane: the halves that it holds, and the ends of its two lanes.
-ghost use Rattle.std.specs.Prelude.{◌≡◌, ◌≢◌, ◌≤◌, ◌<◌, ◌+◌, ◌++◌, ◌⊎◌, [], None, true};
+ghost use Rattle.std.specs.Prelude.{◌≡◌, ◌≢◌, ◌<◌, ◌+◌, ◌++◌, [], None, true};
 ghost use Rattle.std.specs.Prelude.{false, Ok, vec_len, OnOk, IfOk};
 ghost use Rattle.std.specs.Option.{option_to_list};
 ghost use Rattle.lane_core.specs.Ends.{sent, taken};

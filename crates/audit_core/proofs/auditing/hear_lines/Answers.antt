@@ -29,7 +29,7 @@ loop-heard-preserved g c =
         p.0 ++ c.line.result.now ∷ [],
         record {
           read = subst (λ t. WhereTold (g.S.Source.left c.args.source.now)
-              (prepend_known c.read_line.new.buf.front (g.S.Source.left c.read_line.new.source))
+              (prepend_known c.read_line.new.buf.buffered (g.S.Source.left c.read_line.new.source))
               (λ octets rest. HasRead octets rest c.read_line.new.buf.room (p.0 ++ t ∷ []))) (sym c.line.ensures)
               (read_more _ _ _ _ _ _ _ p.0 more p.1.read c.in-Line.ensures.octets);
           hears = c.in_ok-take-in-Line.ensures.heard p.0 p.1.hears;

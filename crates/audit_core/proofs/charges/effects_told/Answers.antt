@@ -7,6 +7,6 @@ use Rattle.audit_core.proofs.charges.effects_told.Goals as goal
 pub loop-stood-preserved : goal.loop-stood-preserved
 loop-stood-preserved c =
     c.in_ok-push_effect.ensures
-    ∙ ap (λ front. front ++ filter_map effect_of (c.stood-item.result.entry ∷ [])) c.loop-stood.invariant
+    ∙ ap (λ prefix. prefix ++ filter_map effect_of (c.stood-item.result.entry ∷ [])) c.loop-stood.invariant
     ∙ told_more effect_of c.args.entries.now c.loop-stood.stood-index c.stood-item.result c.loop-stood-test.true
     c.stood-item.is

@@ -50,7 +50,7 @@ returns-then-not-is_among-clause-some c =
     let made = c.args.due.now in
     let i = c.loop-charge.charge-index in
     record {
-      front = take i made;
+      prefix = take i made;
       open_ = charge;
       later = drop (i + 1) made;
       parts = sym (take-append-drop i made)

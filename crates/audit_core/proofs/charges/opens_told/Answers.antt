@@ -7,6 +7,6 @@ use Rattle.audit_core.proofs.charges.opens_told.Goals as goal
 pub loop-stood-preserved : goal.loop-stood-preserved
 loop-stood-preserved c =
     c.in_ok-push_open.ensures
-    ∙ ap (λ front. front ++ filter_map open_of (c.stood-item.result.entry ∷ [])) c.loop-stood.invariant
+    ∙ ap (λ prefix. prefix ++ filter_map open_of (c.stood-item.result.entry ∷ [])) c.loop-stood.invariant
     ∙ told_more open_of c.args.entries.now c.loop-stood.stood-index c.stood-item.result c.loop-stood-test.true
     c.stood-item.is

@@ -45,18 +45,18 @@ index-requires-in-loop-at c =
 pub returns-then-is_too_many : goal.returns-then-is_too_many
 returns-then-is_too_many c =
     let told = c.args.told.now in
-    let front = take c.loop-at.at (lent told) in
+    let prefix = take c.loop-at.at (lent told) in
     let one = c.index-told-at.result in
     let its : c.slot.inside.0 ≡ slot_charged one.now = c.slot.view_is ∙ c.slot_of.ensures in
-    let before : c.as_slice.result.now ≡ of_slot slot_charged c.slot.inside.0 front =
+    let before : c.as_slice.result.now ≡ of_slot slot_charged c.slot.inside.0 prefix =
     c.as_slice.ensures.value
-    ∙ nth_is (λ (v : Vec ChargeEntry). v.items) c.loop-at.before.items (λ k. of_slot slot_charged k front) c.args.slots
+    ∙ nth_is (λ (v : Vec ChargeEntry). v.items) c.loop-at.before.items (λ k. of_slot slot_charged k prefix) c.args.slots
     c.slot.inside.0 c.index.result.now c.loop-at.invariant.before (omega arith) c.index.ensures in
     let known : c.as_slice-in-loop-at.result.now ≡ of_slot slot_charged c.slot.inside.0 c.args.due.now =
     c.as_slice-in-loop-at.ensures.value
     ∙ nth_is (λ (v : Vec ChargeEntry). v.items) c.in_ok-known.known.items (λ k. of_slot slot_charged k c.args.due.now)
     c.args.slots c.slot.inside.0 c.index-in-loop-at.result.now c.in_ok-known.ensures (omega arith) c.index-in-loop-at.ensures in
-    let own = many_own c.args.due.now front c.as_slice-in-loop-at.result.now c.as_slice.result.now one.now c.slot.inside.0 its known
+    let own = many_own c.args.due.now prefix c.as_slice-in-loop-at.result.now c.as_slice.result.now one.now c.slot.inside.0 its known
     before in
     let here = many_here c.args.due.now told c.loop-at.at one c.loop-at-test.true c.index-told-at.is in
     surplus_some c.args.due.now (lent told) c.loop-at.at
@@ -65,18 +65,18 @@ returns-then-is_too_many c =
 pub loop-at-preserved : goal.loop-at-preserved
 loop-at-preserved c =
     let told = c.args.told.now in
-    let front = take c.loop-at.at (lent told) in
+    let prefix = take c.loop-at.at (lent told) in
     let one = c.index-told-at.result in
     let its : c.slot.inside.0 ≡ slot_charged one.now = c.slot.view_is ∙ c.slot_of.ensures in
-    let before : c.as_slice.result.now ≡ of_slot slot_charged c.slot.inside.0 front =
+    let before : c.as_slice.result.now ≡ of_slot slot_charged c.slot.inside.0 prefix =
     c.as_slice.ensures.value
-    ∙ nth_is (λ (v : Vec ChargeEntry). v.items) c.loop-at.before.items (λ k. of_slot slot_charged k front) c.args.slots
+    ∙ nth_is (λ (v : Vec ChargeEntry). v.items) c.loop-at.before.items (λ k. of_slot slot_charged k prefix) c.args.slots
     c.slot.inside.0 c.index.result.now c.loop-at.invariant.before (omega arith) c.index.ensures in
     let known : c.as_slice-in-loop-at.result.now ≡ of_slot slot_charged c.slot.inside.0 c.args.due.now =
     c.as_slice-in-loop-at.ensures.value
     ∙ nth_is (λ (v : Vec ChargeEntry). v.items) c.in_ok-known.known.items (λ k. of_slot slot_charged k c.args.due.now)
     c.args.slots c.slot.inside.0 c.index-in-loop-at.result.now c.in_ok-known.ensures (omega arith) c.index-in-loop-at.ensures in
-    let own = many_own c.args.due.now front c.as_slice-in-loop-at.result.now c.as_slice.result.now one.now c.slot.inside.0 its known
+    let own = many_own c.args.due.now prefix c.as_slice-in-loop-at.result.now c.as_slice.result.now one.now c.slot.inside.0 its known
     before in
     record {
       none = none_more c.args.due.now told c.loop-at.at one c.loop-at-test.true c.index-told-at.is

@@ -69,5 +69,5 @@ returns-clause-none c = λ slot first all are same.
     (subst (CountsRise slot c.args.start) same
     (counts_from slot c.args.start lines
     (subst (λ rest. EachUpTo (LiesBetween slot c.args.start) [] lines rest) (drop_all at lines past)
-    (subst (λ front. EachUpTo (LiesBetween slot c.args.start) [] front (drop at lines)) (take_all at lines past)
+    (subst (λ prefix. EachUpTo (LiesBetween slot c.args.start) [] prefix (drop at lines)) (take_all at lines past)
     (c.loop-at.invariant.each slot first all are same)))))

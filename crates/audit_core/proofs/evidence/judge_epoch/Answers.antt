@@ -8,15 +8,15 @@ entries_of-requires c =
     let own = c.requires.next.0 in
     let at = c.requires.next.1 in
     let next = c.requires.next.2 in
-    (own.made, next.held.texts, length at.front, next.held.taken, next.held.all, next.runs_are)
+    (own.made, next.held.texts, length at.prefix, next.held.taken, next.held.all, next.runs_are)
 
 pub returns-clause-judged : goal.returns-clause-judged
 returns-clause-judged c = λ own at next.
     c.epoch.ensures.judged own at
     (comes_next own at c.args.octets.now c.args.lines.now c.args.report.now c.args.runs.now c.as_slice.result.now
     c.args.subscribers.now.items c.args.judge.now next
-    (subst (λ es. AreThose es (placed_in own.made (length at.front) own.entries)) (sym c.as_slice.ensures.value)
-    (c.in_ok-entries.ensures own.made next.held.texts own.entries (length at.front) next.held.taken next.held.are
+    (subst (λ es. AreThose es (placed_in own.made (length at.prefix) own.entries)) (sym c.as_slice.ensures.value)
+    (c.in_ok-entries.ensures own.made next.held.texts own.entries (length at.prefix) next.held.taken next.held.are
     next.runs_are)))
 
 pub returns-clause-stands : goal.returns-clause-stands
@@ -24,8 +24,8 @@ returns-clause-stands c = λ own at next.
     c.epoch.ensures.stands own at
     (comes_next own at c.args.octets.now c.args.lines.now c.args.report.now c.args.runs.now c.as_slice.result.now
     c.args.subscribers.now.items c.args.judge.now next
-    (subst (λ es. AreThose es (placed_in own.made (length at.front) own.entries)) (sym c.as_slice.ensures.value)
-    (c.in_ok-entries.ensures own.made next.held.texts own.entries (length at.front) next.held.taken next.held.are
+    (subst (λ es. AreThose es (placed_in own.made (length at.prefix) own.entries)) (sym c.as_slice.ensures.value)
+    (c.in_ok-entries.ensures own.made next.held.texts own.entries (length at.prefix) next.held.taken next.held.are
     next.runs_are)))
 
 pub epoch-requires-clause-next : goal.epoch-requires-clause-next
@@ -37,7 +37,7 @@ epoch-requires-clause-next c =
       at,
       comes_next own at c.args.octets.now c.args.lines.now c.args.report.now c.args.runs.now
           c.as_slice.result.now c.args.subscribers.now.items c.args.judge.now next
-          (subst (λ es. AreThose es (placed_in own.made (length at.front) own.entries)) (sym c.as_slice.ensures.value)
-          (c.in_ok-entries.ensures own.made next.held.texts own.entries (length at.front) next.held.taken next.held.are
+          (subst (λ es. AreThose es (placed_in own.made (length at.prefix) own.entries)) (sym c.as_slice.ensures.value)
+          (c.in_ok-entries.ensures own.made next.held.texts own.entries (length at.prefix) next.held.taken next.held.are
           next.runs_are)),
     )

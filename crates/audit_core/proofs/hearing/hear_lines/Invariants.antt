@@ -7,7 +7,7 @@ use Rattle.audit_core.proofs.hearing.hear_lines.Given as goal
 abbrev pub invariant-loop-heard : goal.invariant-loop-heard
 invariant-loop-heard g l = record {
   progress : (done : List Text) × Progress (g.S.Source.left l.fn.source)
-      (prepend_known l.buf.front (g.S.Source.left l.source)) l.buf.room l.heard done;
+      (prepend_known l.buf.buffered (g.S.Source.left l.source)) l.buf.room l.heard done;
   no_fault : g.S.Source.faults l.source ≡ g.S.Source.faults l.fn.source;
 }
 

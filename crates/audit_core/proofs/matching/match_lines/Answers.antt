@@ -1,7 +1,8 @@
 use Rattle.std.proofs.Common.{◌+◌, ◌∙◌, length, drop, sym, ap, subst, arith}
 use Rattle.std.proofs.lemmas.List.{length-map}
 use Rattle.audit_core.specs.Entries.{line_entries}
-use Rattle.audit_core.specs.Kept.{meaning_in, meanings_in}
+use Rattle.slot_execution.specs.Kept.{meaning_in}
+use Rattle.audit_core.specs.Kept.{meanings_in}
 use Rattle.audit_core.specs.Matched.{UnansweredIn, entries_stood, in_range, lent_entry, of_number}
 use Rattle.audit_core.specs.Places.{first_of}
 use Rattle.audit_core.specs.Telling.{at_line}

@@ -7,7 +7,7 @@ use Rattle.audit_core.proofs.opens.push_lives.Goals as goal
 pub loop-bearer-preserved : goal.loop-bearer-preserved
 loop-bearer-preserved c =
     c.in_ok-push_life.ensures
-    ∙ ap (λ front. front ++ open_for c.args.slot c.args.counted.now c.bearer-item.result.life) c.loop-bearer.invariant
+    ∙ ap (λ prefix. prefix ++ open_for c.args.slot c.args.counted.now c.bearer-item.result.life) c.loop-bearer.invariant
     ∙ lives_more (λ (bearer : ActiveBearer). open_for c.args.slot c.args.counted.now bearer.life)
     c.args.all.now.items c.args.bearers.now c.loop-bearer.bearer-index c.bearer-item.result c.loop-bearer-test.true
     c.bearer-item.is

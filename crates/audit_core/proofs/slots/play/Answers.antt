@@ -89,6 +89,7 @@ loop-place-preserved c =
     half_step lines old c.loop-place.subscribers.items _ i c.index_mut.result.now c.add.new.subscriber
     c.as_slice.result.now c.loop-place.played c.add.new.self c.loop-place.invariant low c.index_mut.ensures.value refl its
     c.in_ok-add.ensures.plays c.in_ok-add.ensures.represents c.in_ok-add.ensures.rest
+    c.in_ok-add.ensures.destination
 
 pub returns-clause-plays : goal.returns-clause-plays
 returns-clause-plays c = λ first histories stand are.
@@ -133,3 +134,15 @@ returns-clause-rest c = λ slices count latest are late slot none low.
     (get_or c.loop-place.subscribers.items slot none)) (length-map c.args.lines.now line_told)
     (c.loop-place.invariant.rest slices count latest are late slot none
     (omega (arith, low, end, c.loop-place.invariant.many)))
+
+pub returns-clause-bound : goal.returns-clause-bound
+returns-clause-bound c = λ slot none low.
+    let end : c.loop-place.place ≡ length c.args.subscribers.now.items =
+    omega (
+      arith,
+      c.loop-place-test.false,
+      c.loop-place.auto.place-end,
+      c.len-place-end.ensures,
+      c.args.subscribers.now.ok.0,
+    ) in
+    c.loop-place.invariant.bound slot none (omega (arith, low, end))

@@ -3,7 +3,7 @@ use Rattle.std.proofs.lemmas.List.{take_all}
 use Rattle.audit_core.specs.Holding.{IsKnown}
 use Rattle.audit_core.specs.Meant.{line_told, lines_of}
 use Rattle.audit_core.specs.Walking.{HasWalked, Walks}
-use Rattle.audit_core.proofs.WalkedLemmas.{answer_of, fewer_before, front_more, known_at, length-front, walked_none}
+use Rattle.audit_core.proofs.WalkedLemmas.{answer_of, fewer_before, prefix_more, known_at, length-prefix, walked_none}
 use Rattle.audit_core.proofs.walking.walk.Goals as goal
 
 pub note_line-requires-clause-known : goal.note_line-requires-clause-known
@@ -15,7 +15,7 @@ pub note_line-requires-clause-few : goal.note_line-requires-clause-few
 note_line-requires-clause-few c =
     let i = c.loop-told.told-index in
     let low = c.loop-told-test.true in
-    let count = length-front c.args.lines.now i (omega (arith, low)) in (
+    let count = length-prefix c.args.lines.now i (omega (arith, low)) in (
       lines_of (take i c.args.lines.now),
       c.loop-told.invariant.walks,
       fewer_before c.args.subscribers.now (length c.args.lines.now)
@@ -33,7 +33,7 @@ pub take-requires-clause-few : goal.take-requires-clause-few
 take-requires-clause-few c =
     let i = c.loop-told.told-index in
     let low = c.loop-told-test.true in
-    let count = length-front c.args.lines.now i (omega (arith, low)) in (
+    let count = length-prefix c.args.lines.now i (omega (arith, low)) in (
       length c.args.subscribers.now,
       lines_of (take i c.args.lines.now),
       c.loop-told.invariant.walks,
@@ -55,7 +55,7 @@ loop-told-preserved c =
     let slots = length c.args.subscribers.now in
     let first = c.requires.answered.0 in
     let answers = answer_of lines i told first low c.told-item.is c.requires.answered.1 in
-    let more = front_more lines i told low c.told-item.is in
+    let more = prefix_more lines i told low c.told-item.is in
     record {
       walks = subst (Walks c.take.new.self slots) more
           (c.take.ensures slots (first + i) (lines_of (take i lines)) c.loop-told.invariant.walks answers);

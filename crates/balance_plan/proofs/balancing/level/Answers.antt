@@ -1,4 +1,4 @@
-use Rattle.std.proofs.Common.{ap, sym, ◌∙◌}
+use Rattle.std.proofs.Common.{sym, ◌∙◌}
 use Rattle.pc_outside.specs.InputRead.{Reached}
 use Rattle.pc_outside.specs.declared.input_stop.InputStop.TheVariants as stopped
 use Rattle.balance_plan.specs.Balance.{balanced}

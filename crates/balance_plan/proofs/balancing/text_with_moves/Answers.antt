@@ -1,4 +1,4 @@
-use Rattle.std.proofs.Common.{◌≡◌, ◌+◌, ◌++◌, ◌∷◌, [], ap, sym, ◌∙◌, subst, take}
+use Rattle.std.proofs.Common.{◌+◌, ◌++◌, ◌∷◌, [], ap, sym, ◌∙◌, subst, take}
 use Rattle.std.proofs.lemmas.List.{take_all, take_more}
 use Rattle.balance_plan.specs.Balance.{balanced}
 use Rattle.balance_plan.specs.Written.{text_of}

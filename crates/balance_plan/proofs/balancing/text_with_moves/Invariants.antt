@@ -1,4 +1,4 @@
-use Rattle.std.proofs.Common.{◌≡◌, ◌+◌, ◌≤◌, length, take}
+use Rattle.std.proofs.Common.{◌≡◌, ◌≤◌, take}
 use Rattle.balance_plan.specs.Writing.{HasWritten, IsWriter}
 use Rattle.balance_plan.proofs.balancing.text_with_moves.Given as goal
 

@@ -1,4 +1,4 @@
-use Rattle.std.proofs.Common.{arith, subst, sym, nat_lt, length}
+use Rattle.std.proofs.Common.{arith, subst, sym, nat_lt}
 use Rattle.std.specs.List.{IsFirstBest}
 use Rattle.balance_plan.proofs.Choosing.{greatest_is}
 use Rattle.balance_plan.proofs.shares.greatest.Goals as goal

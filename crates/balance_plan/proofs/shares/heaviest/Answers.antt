@@ -1,4 +1,4 @@
-use Rattle.std.proofs.Common.{arith, subst, length}
+use Rattle.std.proofs.Common.{arith, subst}
 use Rattle.balance_plan.specs.Shares.{IsHeaviest}
 use Rattle.balance_plan.proofs.Choosing.{heaviest_goes, heaviest_may, none_goes}
 use Rattle.balance_plan.proofs.shares.heaviest.Goals as goal

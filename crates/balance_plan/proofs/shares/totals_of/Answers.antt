@@ -1,7 +1,6 @@
-use Rattle.std.proofs.Common.{take, sym, ap, ◌∙◌, subst, arith, length}
-use Rattle.balance_plan.specs.Loads.{IsBelow, loads_of}
+use Rattle.std.proofs.Common.{take, ap, arith, length}
 use Rattle.balance_plan.proofs.Totals.{fits, load_more, totals_more}
-use Rattle.balance_plan.proofs.Moving.{length-loads_of, load_at}
+use Rattle.balance_plan.proofs.Moving.{length-loads_of}
 use Rattle.balance_plan.proofs.shares.totals_of.Goals as goal
 
 pub add-requires-clause-within : goal.add-requires-clause-within

@@ -1,4 +1,4 @@
-use Rattle.std.proofs.Common.{ap, ◌∙◌, sym}
+use Rattle.std.proofs.Common.{ap}
 use Rattle.bearer_state.specs.declared.bearer.Bearer.{Bearer}
 use Rattle.bearer_state.specs.Version.{row_in}
 use Rattle.bearer_state.proofs.ListLemmas.{filter_map_skipped, filter_map_pushed}

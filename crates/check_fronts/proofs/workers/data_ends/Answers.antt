@@ -1,4 +1,4 @@
-use Rattle.std.proofs.Common.{◌≡◌, [], length, arith}
+use Rattle.std.proofs.Common.{◌≡◌, length, arith}
 use Rattle.worker_core.specs.DataWorkers.{end_lanes, place_of, worker_lanes}
 use Rattle.front_core.proofs.Popping.{popped_none}
 use Rattle.check_fronts.proofs.Ends.{all_ended, end_place, none_ended, nothing_left, one_ended}

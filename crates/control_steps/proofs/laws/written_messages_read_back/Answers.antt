@@ -11,7 +11,7 @@ returns c =
       numbers = c.numbers.ensures;
       session_fits = c.known.ensures.session;
       bearers = c.known.ensures.bearers;
-      command_fits = c.known-2.ensures;
+      command_fits = rw c.command.view_is at c.command.invariant;
       own_numbers = own;
     } in
     read_back c.messages_read_back.ensures (written (row_of c.args.session.now c.args.command.now)

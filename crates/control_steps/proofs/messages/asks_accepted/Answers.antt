@@ -1,4 +1,4 @@
-use Rattle.std.proofs.Common.{◌≡◌, ◌∷◌, Some, None, refl, sym, ap}
+use Rattle.std.proofs.Common.{◌∷◌, refl, sym, ap}
 use Rattle.std.specs.Option.{option_map}
 use Rattle.bearer_state.proofs.ListLemmas.{filter_map_skipped, filter_map_pushed}
 use Rattle.control_steps.specs.declared.cause.TheConstants.{REQUEST_ACCEPTED}

@@ -1,4 +1,3 @@
-use Rattle.std.proofs.Common.{sym, subst}
 use Rattle.packet_steps.proofs.ResultLemmas.{on_ok}
 use Rattle.lawful_run.specs.Cut.{lines_in}
 use Rattle.epoch_drive.specs.Taken.{rest_of}

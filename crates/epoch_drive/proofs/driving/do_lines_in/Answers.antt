@@ -1,6 +1,5 @@
 use Rattle.std.proofs.Common.{◌≡◌, ℕ, ◌+◌, [], List, map, length, refl, sym, ap, subst, ◌∙◌, arith}
 use Rattle.std.specs.List.{All}
-use Rattle.std.proofs.lemmas.List.{length-map}
 use Rattle.demux.specs.Trace.{Meaning}
 use Rattle.lawful_run.specs.Filling.{filled}
 use Rattle.epoch_schedule.specs.Front.{Outcome}
@@ -8,13 +7,12 @@ use Rattle.epoch_schedule.specs.TurnsTold.{turns_told}
 use Rattle.subscriber.specs.Standing.{SubscriberState}
 use Rattle.epoch_drive.specs.DrivenOpened.{open_entries}
 use Rattle.epoch_drive.specs.Joins.{mets_at, replies_at}
-use Rattle.epoch_drive.specs.Kept.{meaning_in}
+use Rattle.slot_execution.specs.Kept.{meaning_in}
 use Rattle.at_rest.specs.Meant.{IsWithin, bound_of}
 use Rattle.epoch_drive.specs.Opened.{opened}
 use Rattle.epoch_drive.specs.Replays.{AllCanDo, HaveDone}
 use Rattle.epoch_drive.specs.Shares.{AreMet, AreShares}
 use Rattle.epoch_drive.specs.Steps.{MayDo}
-use Rattle.epoch_drive.specs.declared.kept.KeptLine.{KeptLine}
 use Rattle.epoch_drive.specs.declared.sharing.Share.{Share}
 use Rattle.epoch_drive.proofs.Drives.{Planned, are_met, planned_so}
 use Rattle.epoch_drive.proofs.Ends.{all_can, length-moments}

@@ -5,7 +5,7 @@ use Rattle.demux.specs.Trace.{Meaning}
 use Rattle.report_lines.specs.declared.entry.LineEntry.{LineEntry}
 use Rattle.lawful_run.specs.Filling.{filled}
 use Rattle.epoch_drive.specs.Joins.{mets_at, replies_at}
-use Rattle.epoch_drive.specs.Kept.{meaning_in}
+use Rattle.slot_execution.specs.Kept.{meaning_in}
 use Rattle.at_rest.specs.Meant.{IsWithin}
 use Rattle.epoch_drive.specs.DrivenOpened.{open_entries}
 use Rattle.epoch_drive.specs.Telling.{DrivenTold, AreShort, IsShortEntry}

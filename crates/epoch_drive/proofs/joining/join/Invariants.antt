@@ -1,7 +1,7 @@
 use Rattle.std.proofs.Common.{◌≡◌, ℕ, ◌+◌, List, length, map, drop, vec_capacity, vec_len}
 use Rattle.lawful_run.specs.Filling.{filled}
 use Rattle.epoch_drive.specs.Joins.{AllShort, mets_at, replies_at}
-use Rattle.epoch_drive.specs.Kept.{meaning_in}
+use Rattle.slot_execution.specs.Kept.{meaning_in}
 use Rattle.epoch_drive.specs.DrivenOpened.{open_entries}
 use Rattle.epoch_drive.specs.Telling.{AreShort}
 use Rattle.epoch_drive.proofs.EntryLemmas.{Joins}

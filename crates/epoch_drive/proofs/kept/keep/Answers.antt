@@ -5,7 +5,7 @@ use Rattle.demux.specs.declared.meant.Meant.{Meant}
 use Rattle.demux.specs.declared.meant.Meant.TheVariants as meant
 use Rattle.epoch_drive.specs.Kept.{KeepsLine}
 use Rattle.epoch_drive.specs.declared.kept.EpochLines.{EpochLines}
-use Rattle.epoch_drive.specs.declared.kept.KeptLine.TheVariants as kept
+use Rattle.slot_execution.specs.declared.kept.KeptMeaning.TheVariants as kept
 use Rattle.epoch_drive.proofs.Keeping.{adds_alone}
 use Rattle.epoch_drive.proofs.kept.keep.Goals as goal
 

@@ -1,10 +1,10 @@
 use Rattle.std.proofs.Common.{◌≡◌, ◌<◌, ◌++◌, ◌∷◌, [], Bool, true, false, not, List, OnOk, length, true≢false, vec_len, refl, sym, ap, subst, ◌∙◌, arith}
 use Rattle.std.proofs.lemmas.Result.{on_ok_weaker}
 use Rattle.epoch_schedule.specs.Front.{Outcome}
-use Rattle.epoch_drive.specs.Kept.{meaning_in, packet_in}
+use Rattle.slot_execution.specs.Kept.{meaning_in, packet_in}
 use Rattle.at_rest.specs.Meant.{IsWithin}
 use Rattle.epoch_drive.specs.Shares.{AreShares, GivesCommand, GivesPacket}
-use Rattle.epoch_drive.specs.declared.kept.KeptLine.{KeptLine}
+use Rattle.slot_execution.specs.declared.kept.KeptMeaning.{KeptMeaning}
 use Rattle.epoch_drive.specs.declared.sharing.Share.{Share}
 use Rattle.epoch_drive.proofs.ShareLemmas.{line_at, moved_nothing, noted_nothing, shares_command, shares_packet, shares_refused, shares_stay}
 use Rattle.epoch_drive.proofs.sharing.share_line.Goals as goal
@@ -32,10 +32,10 @@ returns-in-Command-clause-shares c = λ told n are.
     let new : List Share = c.give_command.new.shares.items in
     let taken : c.args.outcome.taken ≡ true =
     sym (taken_of c.args.outcome _ c.outcome.view_is) ∙ is_taken c.outcome.inside.taken c.if-not-outcome.false in
-    let low = subst (λ (k : KeptLine). IsWithin (vec_len c.args.shares.now) (meaning_in c.args.octets.now k)) c.in-Command.is
+    let low = subst (λ (k : KeptMeaning). IsWithin (vec_len c.args.shares.now) (meaning_in c.args.octets.now k)) c.in-Command.is
     c.requires.within in
     let within : c.in-Command.slot < length old = omega (arith, low, c.args.shares.now.ok.0) in
-    subst (λ (now : KeptLine). OnOk c.give_command.result (AreShares new c.args.subscribers.now c.args.scheduled.now
+    subst (λ (now : KeptMeaning). OnOk c.give_command.result (AreShares new c.args.subscribers.now c.args.scheduled.now
     (told ++ line_at n (meaning_in c.args.octets.now now) c.args.outcome ∷ []))) (sym c.in-Command.is)
     (on_ok_weaker c.give_command.result (λ gives.
     shares_command old new c.args.subscribers.now c.args.scheduled.now told n c.in-Command.slot c.in-Command.command.value
@@ -48,10 +48,10 @@ returns-in-Packet-clause-shares c = λ told n are.
     let new : List Share = c.give_packet.new.shares.items in
     let taken : c.args.outcome.taken ≡ true =
     sym (taken_of c.args.outcome _ c.outcome.view_is) ∙ is_taken c.outcome.inside.taken c.if-not-outcome.false in
-    let low = subst (λ (k : KeptLine). IsWithin (vec_len c.args.shares.now) (meaning_in c.args.octets.now k)) c.in-Packet.is
+    let low = subst (λ (k : KeptMeaning). IsWithin (vec_len c.args.shares.now) (meaning_in c.args.octets.now k)) c.in-Packet.is
     c.requires.within in
     let within : c.in-Packet.slot < length old = omega (arith, low, c.args.shares.now.ok.0) in
-    subst (λ (now : KeptLine). OnOk c.give_packet.result (AreShares new c.args.subscribers.now c.args.scheduled.now
+    subst (λ (now : KeptMeaning). OnOk c.give_packet.result (AreShares new c.args.subscribers.now c.args.scheduled.now
     (told ++ line_at n (meaning_in c.args.octets.now now) c.args.outcome ∷ []))) (sym c.in-Packet.is)
     (on_ok_weaker c.give_packet.result (λ gives.
     shares_packet old new c.args.subscribers.now c.args.scheduled.now told n c.in-Packet.slot
@@ -62,14 +62,14 @@ returns-in-Packet-clause-shares c = λ told n are.
 
 pub returns-in-Move-clause-shares : goal.returns-in-Move-clause-shares
 returns-in-Move-clause-shares c = λ told n are.
-    subst (λ (now : KeptLine). AreShares c.args.shares.now.items c.args.subscribers.now c.args.scheduled.now
+    subst (λ (now : KeptMeaning). AreShares c.args.shares.now.items c.args.subscribers.now c.args.scheduled.now
     (told ++ line_at n (meaning_in c.args.octets.now now) c.args.outcome ∷ [])) (sym c.in-Move.is)
     (shares_stay c.args.shares.now.items c.args.subscribers.now c.args.scheduled.now told _ are
     (moved_nothing n c.in-Move.slot c.in-Move.slice c.in-Move.text c.args.outcome))
 
 pub returns-in-Note-clause-shares : goal.returns-in-Note-clause-shares
 returns-in-Note-clause-shares c = λ told n are.
-    subst (λ (now : KeptLine). AreShares c.args.shares.now.items c.args.subscribers.now c.args.scheduled.now
+    subst (λ (now : KeptMeaning). AreShares c.args.shares.now.items c.args.subscribers.now c.args.scheduled.now
     (told ++ line_at n (meaning_in c.args.octets.now now) c.args.outcome ∷ [])) (sym c.in-Note.is)
     (shares_stay c.args.shares.now.items c.args.subscribers.now c.args.scheduled.now told _ are
     (noted_nothing n c.in-Note.field-0 c.args.outcome))

@@ -1,9 +1,9 @@
-use Rattle.std.proofs.Common.{◌≡◌, ◌<◌, ◌+◌, List, length, map, take, get_or, sym, ap, subst, ◌∙◌, arith}
+use Rattle.std.proofs.Common.{◌≡◌, ◌+◌, List, length, map, take, get_or, sym, ap, subst, ◌∙◌, arith}
 use Rattle.std.proofs.lemmas.List.{get_or-map, length-map}
 use Rattle.std.proofs.lemmas.List.Elements.{All-get_or}
 use Rattle.demux.specs.Trace.{Meaning}
 use Rattle.lawful_run.specs.LinesTold.{LineTold}
-use Rattle.epoch_drive.specs.Kept.{IsPlaced, meaning_in}
+use Rattle.slot_execution.specs.Kept.{IsPlaced, meaning_in}
 use Rattle.at_rest.specs.Meant.{IsWithin}
 use Rattle.epoch_drive.specs.Opened.{opened}
 use Rattle.epoch_drive.proofs.ShareLemmas.{has_met, shares_next, shares_over}

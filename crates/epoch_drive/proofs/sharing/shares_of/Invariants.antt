@@ -1,5 +1,5 @@
 use Rattle.std.proofs.Common.{◌≡◌, ℕ, length, map, take, vec_len}
-use Rattle.epoch_drive.specs.Kept.{meaning_in}
+use Rattle.slot_execution.specs.Kept.{meaning_in}
 use Rattle.epoch_drive.specs.Opened.{opened}
 use Rattle.epoch_drive.specs.Shares.{AreShares}
 use Rattle.epoch_drive.proofs.sharing.shares_of.Given as goal

@@ -1,10 +1,9 @@
-use Rattle.std.proofs.Common.{◌≡◌, ℕ, ◌≤◌, ◌++◌, List, length, sym, ap, subst, ◌∙◌, arith}
-use Rattle.trace_lines.specs.Line.{Line}
+use Rattle.std.proofs.Common.{◌++◌, length, sym, ap, subst, ◌∙◌, arith}
 use Rattle.lawful_run.specs.Merging.{behind}
 use Rattle.lawful_run.specs.Run.{told_in}
 use Rattle.lawful_run.specs.Trace.{meant_from}
 use Rattle.at_rest.specs.Rest.{IsBehind, RepresentsAll, Rest, bound_at}
-use Rattle.epoch_drive.specs.Taken.{HasTaken, MayCome, rest_of}
+use Rattle.epoch_drive.specs.Taken.{MayCome, rest_of}
 use Rattle.epoch_drive.specs.Telling.{told_by}
 use Rattle.epoch_drive.proofs.Wholes.{behind_full, represents_full}
 use Rattle.epoch_drive.proofs.whole.drive_epoch.Goals as goal

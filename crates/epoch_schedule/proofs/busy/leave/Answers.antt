@@ -1,5 +1,4 @@
-use Rattle.std.proofs.Common.{rules, ◌≡◌, ℕ, ◌<◌, ◌≤◌, [], List, length, get_or, ◌∙◌}
-use Rattle.epoch_schedule.specs.Rosters.{roster_at}
+use Rattle.std.proofs.Common.{rules, ℕ, ◌<◌, [], List, length, ◌∙◌}
 use Rattle.epoch_schedule.specs.Worlds.{world_of}
 use Rattle.epoch_schedule.proofs.Busying.{roster_of, past_lists, past_controls, listed_ordered, leaves_list}
 use Rattle.epoch_schedule.proofs.Grown.{value-within}

@@ -1,4 +1,4 @@
-use Rattle.std.proofs.Common.{rules, ◌≡◌, ℕ, ◌≤◌, List, length}
+use Rattle.std.proofs.Common.{rules, ℕ, ◌≤◌, List, length}
 use Rattle.epoch_schedule.specs.Rounds.{place_held}
 use Rattle.epoch_schedule.proofs.Busied.{absent_by}
 use Rattle.epoch_schedule.proofs.Busying.{left_there, lacks_slot, none_held}

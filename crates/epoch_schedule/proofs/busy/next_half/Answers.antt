@@ -1,4 +1,4 @@
-use Rattle.std.proofs.Common.{rules, ◌≡◌, ◌<◌, ◌≤◌, [], List, ℕ, length, get_or, subst, sym, ap, ◌∙◌, arith}
+use Rattle.std.proofs.Common.{rules, ◌≡◌, ◌<◌, ◌≤◌, [], List, ℕ, length, get_or, subst, ap, ◌∙◌, arith}
 use Rattle.epoch_schedule.specs.Rosters.{RosterNow, roster_at}
 use Rattle.epoch_schedule.specs.Rounds.{turn_of}
 use Rattle.epoch_schedule.specs.Worlds.{world_of}

@@ -1,4 +1,4 @@
-use Rattle.std.proofs.Common.{rules, ◌≡◌, ◌<◌, ◌≤◌, true, [], List, ℕ, length, get_or, ◌∙◌}
+use Rattle.std.proofs.Common.{rules, ◌≡◌, ◌<◌, ◌≤◌, true, [], List, ℕ, length, ◌∙◌}
 use Rattle.epoch_schedule.specs.World.{slot_at}
 use Rattle.epoch_schedule.specs.Busy.{is_still}
 use Rattle.epoch_schedule.specs.Rosters.{roster_at}

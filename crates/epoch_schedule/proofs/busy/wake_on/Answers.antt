@@ -1,9 +1,9 @@
-use Rattle.std.proofs.Common.{rules, ◌≡◌, ℕ, ◌<◌, ◌≤◌, ◌||◌, true, List, length, refl, subst, sym, ap, ◌∙◌, arith}
+use Rattle.std.proofs.Common.{rules, ℕ, ◌<◌, ◌≤◌, ◌||◌, List, length, refl, subst, sym, ap, ◌∙◌, arith}
 use Rattle.std.proofs.lemmas.Bool.{eq-eqb}
 use Rattle.epoch_schedule.specs.Busy.{InOrder}
 use Rattle.epoch_schedule.specs.Rounds.{place_held}
 use Rattle.epoch_schedule.specs.Waiting.{is_in}
-use Rattle.epoch_schedule.proofs.Busied.{at, in_at, in_insert, order_insert, strictly_behind}
+use Rattle.epoch_schedule.proofs.Busied.{in_at, in_insert, order_insert, strictly_behind}
 use Rattle.epoch_schedule.proofs.Kept.{on_ok}
 use Rattle.epoch_schedule.proofs.SlotSets.{or_more}
 use Rattle.epoch_schedule.proofs.busy.wake_on.Goals as goal

@@ -1,4 +1,4 @@
-use Rattle.std.proofs.Common.{[], subst, sym}
+use Rattle.std.proofs.Common.{subst, sym}
 use Rattle.epoch_schedule.specs.World.{World}
 use Rattle.epoch_schedule.specs.Listed.{AreListed}
 use Rattle.epoch_schedule.specs.Worlds.{world_of}

@@ -1,4 +1,4 @@
-use Rattle.std.proofs.Common.{rules, ◌≡◌, ◌<◌, ◌≤◌, ◌∷◌, [], Option, None, Some, length, refl, subst, sym, arith}
+use Rattle.std.proofs.Common.{rules, ◌<◌, ◌≤◌, ◌∷◌, [], Option, None, Some, length, refl, subst, sym, arith}
 use Rattle.epoch_schedule.specs.World.{World}
 use Rattle.epoch_schedule.specs.Listed.{AreListedBut}
 use Rattle.epoch_schedule.specs.Setups.{bounds_of}

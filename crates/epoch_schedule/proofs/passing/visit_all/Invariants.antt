@@ -1,4 +1,4 @@
-use Rattle.std.proofs.Common.{ℕ, ◌-◌}
+use Rattle.std.proofs.Common.{◌-◌}
 use Rattle.epoch_schedule.specs.Listed.{AreListed}
 use Rattle.epoch_schedule.specs.Setups.{bounds_of}
 use Rattle.epoch_schedule.specs.Waiting.{passed_by}

@@ -1,4 +1,4 @@
-use Rattle.std.proofs.Common.{◌≤◌, length, length-set, ◌∙◌, arith}
+use Rattle.std.proofs.Common.{length-set, ◌∙◌, arith}
 use Rattle.epoch_schedule.proofs.Batches.{closed_all, closed_more}
 use Rattle.epoch_schedule.proofs.planning.close_all.Goals as goal
 

@@ -1,4 +1,4 @@
-use Rattle.std.proofs.Common.{nat_lt, length, sym, ap, ◌∙◌, arith}
+use Rattle.std.proofs.Common.{nat_lt, sym, ap, ◌∙◌, arith}
 use Rattle.epoch_schedule.specs.Rosters.{present, place_at}
 use Rattle.epoch_schedule.specs.Rounds.{place_held}
 use Rattle.epoch_schedule.proofs.Order.{half_there, order_same}

@@ -1,6 +1,5 @@
-use Rattle.std.proofs.Common.{nat_lt, length, sym, ap, ◌∙◌, arith}
-use Rattle.epoch_schedule.specs.Rosters.{present, place_at}
-use Rattle.epoch_schedule.specs.Rounds.{place_held}
+use Rattle.std.proofs.Common.{nat_lt, sym, ap, ◌∙◌, arith}
+use Rattle.epoch_schedule.specs.Rosters.{place_at}
 use Rattle.epoch_schedule.proofs.Order.{half_there, order_next}
 use Rattle.epoch_schedule.proofs.Places.{lacks_place, stands_place}
 use Rattle.epoch_schedule.proofs.roster.stands_before.Goals as goal

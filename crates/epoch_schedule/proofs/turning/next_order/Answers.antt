@@ -1,4 +1,3 @@
-use Rattle.std.proofs.Common.{[]}
 use Rattle.epoch_schedule.specs.Worlds.{world_of}
 use Rattle.epoch_schedule.proofs.Flowing.{worlds_busy}
 use Rattle.epoch_schedule.proofs.turning.next_order.Goals as goal

@@ -1,6 +1,6 @@
-use Rattle.std.proofs.Common.{◌≡◌, [], ◌∷◌, subst, sym, rules}
-use Rattle.epoch_schedule.specs.World.{World, control_at, on_control}
-use Rattle.epoch_schedule.specs.ControlTurns.{held_at, place_done, sent_home}
+use Rattle.std.proofs.Common.{[], ◌∷◌, subst, sym}
+use Rattle.epoch_schedule.specs.World.{World, control_at}
+use Rattle.epoch_schedule.specs.ControlTurns.{place_done}
 use Rattle.epoch_schedule.specs.Busy.{AreBusyBut}
 use Rattle.epoch_schedule.specs.Worlds.{world_of}
 use Rattle.epoch_schedule.proofs.Busying.{left_busy}

@@ -1,4 +1,4 @@
-use Rattle.std.proofs.Common.{rules, ◌≡◌, [], ◌/◌, refl, subst, sym}
+use Rattle.std.proofs.Common.{rules, ◌≡◌, [], refl, subst, sym}
 use Rattle.epoch_schedule.specs.World.{World}
 use Rattle.epoch_schedule.specs.Schedule.{turned}
 use Rattle.epoch_schedule.specs.Busy.{AreBusyBut}

@@ -1,4 +1,4 @@
-use Rattle.std.proofs.Common.{rules, ◌≡◌, ◌<◌, [], List, ℕ, length, get_or, sym, ap, ◌∙◌}
+use Rattle.std.proofs.Common.{rules, ◌≡◌, ◌<◌, [], List, ℕ, length, get_or, ap, ◌∙◌}
 use Rattle.epoch_schedule.specs.Waiting.{is_in}
 use Rattle.epoch_schedule.proofs.Grown.{value-within}
 use Rattle.epoch_schedule.proofs.SlotSets.{leaves_lane}

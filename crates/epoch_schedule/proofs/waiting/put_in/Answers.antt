@@ -1,4 +1,4 @@
-use Rattle.std.proofs.Common.{rules, ◌≡◌, [], get_or, ◌∙◌}
+use Rattle.std.proofs.Common.{◌≡◌, [], get_or, ◌∙◌}
 use Rattle.epoch_schedule.proofs.Grown.{value-within}
 use Rattle.epoch_schedule.proofs.Kept.{on_ok}
 use Rattle.epoch_schedule.proofs.SlotSets.{waits_own, waits_more}

@@ -10,7 +10,7 @@ use Rattle.counter_half.specs.declared.items.DataItem.{DataItem}
 use Rattle.lawful_run.specs.Filling.{filled}
 use Rattle.front_core.specs.Views.{view_at}
 use Rattle.front_core.specs.declared.taken.Taken.{Taken}
-use Rattle.front_core.specs.Entries.{lines_of, opens_of, took_of}
+use Rattle.front_core.specs.Entries.{lines_of, opens_of}
 use Rattle.front_core.specs.Words.{opened_of}
 use Rattle.front_core.specs.Ending.{CanEndAll, HaveEnded}
 use Rattle.front_core.specs.Filled.{IsWithin, mets_at, replies_at, took_told}
@@ -25,8 +25,8 @@ use Rattle.front_core.proofs.closing.close.Goals as goal
 
 pub finish_all-requires-clause-may : goal.finish_all-requires-clause-may
 finish_all-requires-clause-may g c =
-    let parts = c.into_parts-slices.result in
-    let keeps = c.into_parts-slices.ensures.keeps in
+    let parts = c.args.front in
+    let keeps = c.requires.whole in
     let subs : List SubscriberState = parts.subscribers.items in
     let entries : List Taken = parts.entries.items in
     let items : ℕ → List DataItem = λ slot. (view_at parts.halves slot).accepted in
@@ -39,8 +39,8 @@ finish_all-requires-clause-may g c =
 
 pub fill_all-requires-clause-within : goal.fill_all-requires-clause-within
 fill_all-requires-clause-within g c =
-    let parts = c.into_parts-slices.result in
-    let keeps = c.into_parts-slices.ensures.keeps in
+    let parts = c.args.front in
+    let keeps = c.requires.whole in
     let subs : List SubscriberState = parts.subscribers.items in
     let entries : List Taken = parts.entries.items in
     let items : ℕ → List DataItem = λ slot. (view_at parts.halves slot).accepted in
@@ -60,8 +60,8 @@ fill_all-requires-clause-within g c =
 
 pub invariant_of-result : goal.invariant_of-result
 invariant_of-result g c =
-    let parts = c.into_parts-slices.result in
-    let keeps = c.into_parts-slices.ensures.keeps in
+    let parts = c.args.front in
+    let keeps = c.requires.whole in
     let subs : List SubscriberState = parts.subscribers.items in
     let entries : List Taken = parts.entries.items in
     let items : ℕ → List DataItem = λ slot. (view_at parts.halves slot).accepted in
@@ -106,8 +106,8 @@ invariant_of-result g c =
 
 pub returns-clause-closes : goal.returns-clause-closes
 returns-clause-closes g c =
-    let parts = c.into_parts-slices.result in
-    let keeps = c.into_parts-slices.ensures.keeps in
+    let parts = c.args.front in
+    let keeps = c.requires.whole in
     let subs : List SubscriberState = parts.subscribers.items in
     let entries : List Taken = parts.entries.items in
     let items : ℕ → List DataItem = λ slot. (view_at parts.halves slot).accepted in
@@ -132,18 +132,17 @@ returns-clause-closes g c =
     omega (arith, counted, len, own) in
     closes_as (opened_of c.args.front) parts.slices parts.halves.room parts.lane parts.lines parts.latest
     parts.halves.fulls parts.book subs new _ parts.halves entries keeps refl (with_items_is parts.subscribers new many)
-    (lines_of c.args.front.entries.items) (ap lines_of (sym c.into_parts-slices.ensures.entries))
+    (lines_of c.args.front.entries.items) refl
     told.answers.items (effects_told told.effects.items) (rows_told told.rows.items) ends _
     (c.in_ok-told.ensures ∙ ap (λ (n : ℕ). filled (opens_of n entries) (replies_at told.answers.items)
     (mets_at told.answers.items)) first) refl refl
 
 pub returns-clause-answered : goal.returns-clause-answered
 returns-clause-answered g c =
-    let parts = c.into_parts-slices.result in
+    let parts = c.args.front in
     let answers = c.in_ok-answers.field-0.answers.items in
     ap (λ (l : List LineEntry). map took_told l) c.in_ok-told.ensures
     ∙ answered_so (parts.lines - c.len.result + 1) parts.entries.items (replies_at answers) (mets_at answers)
-    ∙ ap (λ (es : List Taken). map (λ (taken : Taken). took_of taken.open) es) c.into_parts-slices.ensures.entries
 
 pub returns-clause-placed : goal.returns-clause-placed
 returns-clause-placed g c =
@@ -152,5 +151,5 @@ returns-clause-placed g c =
     let below = c.in_ok-answers.ensures.below n (c.in_ok-homes.ensures.placed n
     (subst (All (λ slice. slice < n)) (sym c.requires.places) (slices_below n))) in
     subst (All (IsEntryBelow n)) (sym c.in_ok-told.ensures)
-    (filled_below n (c.into_parts-slices.result.lines - c.len.result + 1) c.into_parts-slices.result.entries.items
+    (filled_below n (c.args.front.lines - c.len.result + 1) c.args.front.entries.items
     (replies_at answers) (mets_at answers) (answers_met n answers below))

@@ -31,9 +31,9 @@ returns-in-Accepted-clause-takes g c =
     c.index-subscribers-slot.result c.admit.new.subscriber c.admit.new.self at c.requires.is_to
     c.index-subscribers-slot.is c.in_ok-admit.ensures.ready c.admit.ensures.lots c.admit.ensures.fulls in
     packet_came c.args.slot c.args.line (c.args.patience + 1) c.args.subscribers.now after c.args.halves.now
-    c.admit.new.self c.give_packet.new.self ready c.args.lent.now c.in_ok-numbered.numbered c.in-Accepted.parked
-    c.in_ok-numbered.ensures
-    (subst (λ (given : Given). GivesPacket c.args.slot c.args.line c.in_ok-numbered.numbered (c.args.patience + 1) given
+    c.admit.new.self c.give_packet.new.self ready c.args.lent.now c.sent_of-sent.result c.in-Accepted.parked
+    c.sent_of-sent.ensures
+    (subst (λ (given : Given). GivesPacket c.args.slot c.args.line c.sent_of-sent.result (c.args.patience + 1) given
     c.admit.new.self c.give_packet.new.self) c.in-Accepted.is c.in_ok-parked.ensures.gives)
 
 pub returns-in-Full-clause-takes : goal.returns-in-Full-clause-takes
@@ -45,8 +45,8 @@ returns-in-Full-clause-takes g c =
     c.index-subscribers-slot.result c.admit.new.subscriber c.admit.new.self at c.requires.is_to
     c.index-subscribers-slot.is c.in_ok-admit.ensures.ready c.admit.ensures.lots c.admit.ensures.fulls in
     packet_refused c.args.slot c.args.line (c.args.patience + 1) c.args.subscribers.now after c.args.halves.now
-    c.admit.new.self c.give_packet.new.self ready c.args.lent.now c.in_ok-numbered.numbered
-    (subst (λ (given : Given). GivesPacket c.args.slot c.args.line c.in_ok-numbered.numbered (c.args.patience + 1) given
+    c.admit.new.self c.give_packet.new.self ready c.args.lent.now c.sent_of-sent.result
+    (subst (λ (given : Given). GivesPacket c.args.slot c.args.line c.sent_of-sent.result (c.args.patience + 1) given
     c.admit.new.self c.give_packet.new.self) c.in-Full.is c.in_ok-parked.ensures.gives)
 
 pub returns-in-Accepted-clause-tried : goal.returns-in-Accepted-clause-tried

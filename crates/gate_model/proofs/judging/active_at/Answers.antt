@@ -3,5 +3,5 @@ use Rattle.gate_model.proofs.judging.active_at.Goals as goal
 
 pub returns-clause-ebi : goal.returns-clause-ebi
 returns-clause-ebi c =
-    found_ebi c.args.version.now c.bearer_at.result c.bearers-bearers.ensures.valid
-    (found_there c.args.version.now.bearers c.args.index c.bearer_at.result c.bearer_at.ensures)
+    found_ebi c.args.version.now c.bearer_at.result c.bearer_at.ensures.valid
+    (found_there c.args.version.now.bearers c.args.index c.bearer_at.result c.bearer_at.ensures.value)

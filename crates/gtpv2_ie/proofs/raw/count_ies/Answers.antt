@@ -5,7 +5,7 @@ use Rattle.gtpv2_ie.proofs.raw.count_ies.Goals as goal
 
 pub loop-at-preserved : goal.loop-at-preserved
 loop-at-preserved c =
-    let before = c.loop-at.invariant.front in
+    let before = c.loop-at.invariant.prefix in
     let ie : RawIe = c.in_ok-at.field-0 in
     record {
       in_octets = c.in_ok-at.ensures.found.inside;
@@ -14,7 +14,7 @@ loop-at-preserved c =
         StandsAt-long c.args.octets.now c.loop-at.at ie c.in_ok-at.ensures.found,
         c.loop-at.invariant.few,
       );
-      front = (
+      prefix = (
         before.0 ++ ie
             ∷ [],
         StandBetween-push c.args.octets.now 0 c.loop-at.at before.0 ie before.1 c.in_ok-at.ensures.found,

@@ -7,7 +7,7 @@ abbrev pub invariant-loop-at : goal.invariant-loop-at
 invariant-loop-at l = record {
   in_octets : l.at ≤ length l.octets;
   few : l.count ≤ l.at;
-  front : (before : List RawIe) × StandBetween l.octets 0 before l.at;
+  prefix : (before : List RawIe) × StandBetween l.octets 0 before l.at;
 }
 
 abbrev pub decreases-loop-at : goal.decreases-loop-at

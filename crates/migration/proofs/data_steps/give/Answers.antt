@@ -31,5 +31,5 @@ returns g c =
     (gave_any slot g.H.DataTraveller.item_slot g.H.DataTraveller.handled c.args.slot c.in-Some.here after c.args.desks.now.items
     c.given.new.desks.items ready
     c.args.room c.args.item c.given.result c.requires.own fits c.given.ensures.same.0
-    c.given.ensures.same.1 c.given.ensures.accepted
+    c.given.ensures.same.1 c.given.ensures.accepted c.given.ensures.told
     c.given.ensures.parked c.given.ensures.placed)

@@ -1,14 +1,13 @@
 use Rattle.std.proofs.Common.{◌≡◌, ℕ, true, List, ◌++◌, map, filter, unwrap_or, refl, sym, ◌∙◌, ap, subst}
 use Rattle.std.specs.List.{fold}
 use Rattle.bearer_state.specs.Version.{VersionState}
-use Rattle.packet_steps.specs.declared.meters.Meters.{Meters}
 use Rattle.packet_steps.specs.declared.releasing.Release.{Release}
 use Rattle.charging_book.specs.Accounts as book
 use Rattle.charging_book.specs.Postings.{happening_of, MayAllFollow}
 use Rattle.packet_steps.specs.Rows.{HeldRow, held_in_order}
 use Rattle.packet_steps.specs.Past.{Past}
 use Rattle.packet_steps.specs.Change.{marks, markers, marked, released, learnt, waits}
-use Rattle.packet_steps.specs.Meters.{learnt_meters}
+use Rattle.packet_steps.specs.Meters.{MetersState, learnt_meters}
 use Rattle.packet_steps.specs.Releases.{Releases}
 use Rattle.packet_steps.specs.Standing.{CountersState, StandsFor, Follows}
 use Rattle.charging_book.specs.Posted.{GoesFar}
@@ -27,8 +26,8 @@ past_brought c past taken stands same follows =
     let after = c.args.after.now in
     let begun : Release = record { meters = c.learn.new.self; postings = c.in_ok-postings.postings; effects = c.in_ok-effects.effects } in
     let starts = release_starts old past taken after begun stands follows c.bearers-bearers.ensures.valid
-    (c.learn.ensures ∙ ap (λ (m : Meters). learnt_meters c.args.before.now after m)
-    (ap (λ (s : CountersState). s.meters) c.counters.view_is)
+    (c.in_ok-learn.ensures ∙ ap (λ (m : MetersState). learnt_meters c.args.before.now after m)
+    (c.in_ok-meters.ensures ∙ ap (λ (s : CountersState). s.meters) c.counters.view_is)
     ∙ ap (λ (v : VersionState). learnt_meters v after old.meters) (sym same))
     (c.in_ok-postings.ensures ∙ ap (λ (v : VersionState). marks v after) (sym same))
     (c.in_ok-effects.ensures ∙ ap (λ (v : VersionState). markers v after) (sym same)) in
@@ -79,7 +78,8 @@ brought_all c =
       effects = markers before after;
     } in
     let starts : brought_by begun ≡ start = same_brought (brought_by begun) start
-    (c.learn.ensures ∙ ap (learnt_meters before after) (ap (λ (s : CountersState). s.meters) c.counters.view_is))
+    (c.in_ok-learn.ensures ∙ ap (learnt_meters before after)
+    (c.in_ok-meters.ensures ∙ ap (λ (s : CountersState). s.meters) c.counters.view_is))
     c.in_ok-postings.ensures c.in_ok-effects.ensures in
     let now : c.last_moment-at.result ≡ unwrap_or old.last 0 = c.last_moment-at.ensures
     ∙ ap (λ last. unwrap_or last 0) (ap (λ (s : CountersState). s.last) c.counters.view_is) in

@@ -12,14 +12,14 @@ returns-then-bearer-index-clause-value c =
     (c.from-place.result, c.if-place-bearers.true, sym c.index-bearers-place.is)) c.if-bearer-index.true
 
 pub returns-clause-there : goal.returns-clause-there
-returns-clause-there c = found_there c.args.version.now.bearers c.args.index c.bearer_at.result c.bearer_at.ensures
+returns-clause-there c = found_there c.args.version.now.bearers c.args.index c.bearer_at.result c.bearer_at.ensures.value
 
 pub returns-clause-index : goal.returns-clause-index
 returns-clause-index c =
     found_in_range c.args.version.now c.bearer_at.result c.bearers-bearers.ensures.valid
-    (found_there c.args.version.now.bearers c.args.index c.bearer_at.result c.bearer_at.ensures)
+    (found_there c.args.version.now.bearers c.args.index c.bearer_at.result c.bearer_at.ensures.value)
 
 pub returns-clause-ebi : goal.returns-clause-ebi
 returns-clause-ebi c =
     found_ebi c.args.version.now c.bearer_at.result c.bearers-bearers.ensures.valid
-    (found_there c.args.version.now.bearers c.args.index c.bearer_at.result c.bearer_at.ensures)
+    (found_there c.args.version.now.bearers c.args.index c.bearer_at.result c.bearer_at.ensures.value)

@@ -14,11 +14,11 @@ returns-in-Some-clause-octets g c =
 
 pub returns-in-Some-clause-stays : goal.returns-in-Some-clause-stays
 returns-in-Some-clause-stays g c = λ stop stopped.
-    let front = ap (λ (held : Held). held.front) c.forget_line.ensures in
+    let buffered = ap (λ (held : Held). held.buffered) c.forget_line.ensures in
     let room = ap (λ (held : Held). held.room) c.forget_line.ensures in
     let gives = settles-stays stop _ _ _
-    (stopped-now stop c.args.buf.now c.forget_line.new.self stopped front room) c.in-Some.ensures.settled in
-    (gives.0, refl, gives.1 ∙ front)
+    (stopped-now stop c.args.buf.now c.forget_line.new.self stopped buffered room) c.in-Some.ensures.settled in
+    (gives.0, refl, gives.1 ∙ buffered)
 
 pub returns-in-None-clause-octets : goal.returns-in-None-clause-octets
 returns-in-None-clause-octets g c =
@@ -26,8 +26,8 @@ returns-in-None-clause-octets g c =
     c.in-None.ensures.waits.0 ∙ c.forget_line.ensures in
     let left = g.S.Source.left c.args.source.now in
     let new = c.read_more.new.buf in
-    subst (λ (held : Held). Reads c.read_more.result held.room new.room (prepend_known held.front left)
-    (prepend_known new.front (g.S.Source.left c.read_more.new.source)) new.line new.last)
+    subst (λ (held : Held). Reads c.read_more.result held.room new.room (prepend_known held.buffered left)
+    (prepend_known new.buffered (g.S.Source.left c.read_more.new.source)) new.line new.last)
     same c.read_more.ensures.octets
 
 pub returns-in-None-clause-held : goal.returns-in-None-clause-held
@@ -37,7 +37,7 @@ returns-in-None-clause-held g c =
     let new = c.read_more.new.buf in
     let more = c.read_more.ensures.held in (
       more.0,
-      subst (λ (held : Held). Answers c.read_more.result held.room new.room (held.front ++ more.0) new.front
+      subst (λ (held : Held). Answers c.read_more.result held.room new.room (held.buffered ++ more.0) new.buffered
           new.line new.last) same more.1,
     )
 
@@ -46,4 +46,4 @@ returns-in-None-clause-stays g c = λ stop stopped.
     let same : c.settle.new.self ≡ record c.args.buf.now { line = []; last = false } =
     c.in-None.ensures.waits.0 ∙ c.forget_line.ensures in
     absurd (unfinished-goes_on stop c.settle.new.self (stopped-now stop c.args.buf.now c.settle.new.self stopped
-    (ap (λ (held : Held). held.front) same) (ap (λ (held : Held). held.room) same)) c.in-None.ensures.waits.1)
+    (ap (λ (held : Held). held.buffered) same) (ap (λ (held : Held). held.room) same)) c.in-None.ensures.waits.1)

@@ -12,5 +12,5 @@ returns-clause-behind g c =
     IfOk-weaker c.read_between.result (λ count. at + count ≤ at + c.args.most)
     (λ count. slice_range now 0 (at + count) ≡ held ++ slice_range now at (at + count))
     (λ count within. part-gained moved now at count c.read_between.ensures.before
-    ∙ ap (λ front. front ++ slice_range now at (at + count)) c.move_to_start.ensures.moved)
+    ∙ ap (λ before. before ++ slice_range now at (at + count)) c.move_to_start.ensures.moved)
     c.read_between.ensures.count

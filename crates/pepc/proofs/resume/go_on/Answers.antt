@@ -1,8 +1,11 @@
-use Rattle.std.proofs.Common.{false, ap}
+use Rattle.std.proofs.Common.{false, ap, arith}
 use Rattle.record_codec.specs.Saved.{FileState}
 use Rattle.solo_command.specs.Reports.{IsResumed}
 use Rattle.pepc.proofs.ResumeReports.{runs_behind, runs_wider}
 use Rattle.pepc.proofs.resume.go_on.Goals as goal
+
+pub run_report_behind-requires-clause-low : goal.run_report_behind-requires-clause-low
+run_report_behind-requires-clause-low g c = omega (arith, c.file.invariant.0.lines)
 
 pub returns-clause-runs : goal.returns-clause-runs
 returns-clause-runs g c =

@@ -15,7 +15,7 @@ overflow_cast-count c =
     )
 
 pub put_subscribers-requires-clause-long : goal.put_subscribers-requires-clause-long
-put_subscribers-requires-clause-long c = rw (c.imsis.ensures, c.deref.ensures.value) (sym c.file.invariant.1)
+put_subscribers-requires-clause-long c = rw (c.imsis.ensures.value, c.deref.ensures.value) (sym c.file.invariant.1)
 
 pub put_subscribers-requires-clause-each : goal.put_subscribers-requires-clause-each
 put_subscribers-requires-clause-each c =
@@ -35,6 +35,6 @@ returns c =
     (sym c.file.invariant.1) many c.new-text.ensures.items c.in_ok-push.ensures.items c.in_ok-put_u64.ensures
     c.in_ok-put_moment.ensures c.in_ok-put_u32.ensures
     (c.in_ok-put_subscribers.ensures
-    ∙ ap (λ imsis. t4 ++ flat_map subscriber_text (all_saved imsis c.deref.result.now)) c.imsis.ensures
+    ∙ ap (λ imsis. t4 ++ flat_map subscriber_text (all_saved imsis c.deref.result.now)) c.imsis.ensures.value
     ∙ ap (λ ones. t4 ++ flat_map subscriber_text (all_saved file.book ones)) c.deref.ensures.value)
     ∙ ap state c.file.view_is

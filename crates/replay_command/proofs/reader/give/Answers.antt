@@ -9,11 +9,11 @@ use Rattle.replay_command.proofs.reader.give.Goals as goal
 pub returns-in-Ok-clause-tells : goal.returns-in-Ok-clause-tells
 returns-in-Ok-clause-tells c = λ left.
     let one = c.args.one in
-    let front = c.args.buf.now.front in
+    let buffered = c.args.buf.now.buffered in
     let first = c.requires.1 in
-    rw (c.given.ensures c.in-Ok.line, c.give.ensures.front, behind_is one front c.requires.0 first)
+    rw (c.given.ensures c.in-Ok.line, c.give.ensures.buffered, behind_is one buffered c.requires.0 first)
     (tells_given c.args.number c.args.least _ _ _ _ first.text false c.in-Ok.line one.len
-    (reads_first one front c.requires.0 _ _ left first c.give.ensures.room)
+    (reads_first one buffered c.requires.0 _ _ left first c.give.ensures.room)
     (told_line c.args.least c.args.number first.text one.line c.in-Ok.line first.means c.in-Ok.ensures))
 
 pub returns-in-Ok-clause-room : goal.returns-in-Ok-clause-room
@@ -22,8 +22,8 @@ returns-in-Ok-clause-room c =
     let first = c.requires.1 in
     let means = told_line c.args.least c.args.number first.text one.line c.in-Ok.line first.means c.in-Ok.ensures in
     rw (c.given.ensures c.in-Ok.line)
-    (takes_given _ _ c.args.buf.now.front c.requires.0 first.text false c.in-Ok.line one.len
-    (holds_first one c.args.buf.now.front c.requires.0 _ _ first c.give.ensures.room)
+    (takes_given _ _ c.args.buf.now.buffered c.requires.0 first.text false c.in-Ok.line one.len
+    (holds_first one c.args.buf.now.buffered c.requires.0 _ _ first c.give.ensures.room)
     (length-line_text first.text c.in-Ok.line
     (meaning_given c.args.least c.args.number first.text c.in-Ok.line means).0))
 
@@ -46,16 +46,16 @@ returns-in-Ok-clause-no_fault c =
 
 pub returns-in-Ok-clause-behind : goal.returns-in-Ok-clause-behind
 returns-in-Ok-clause-behind c = λ behind first.
-    c.give.ensures.front ∙ behind_is c.args.one c.args.buf.now.front behind first
+    c.give.ensures.buffered ∙ behind_is c.args.one c.args.buf.now.buffered behind first
 
 pub returns-in-Err-clause-tells : goal.returns-in-Err-clause-tells
 returns-in-Err-clause-tells c = λ left.
     let one = c.args.one in
-    let front = c.args.buf.now.front in
+    let buffered = c.args.buf.now.buffered in
     let first = c.requires.1 in
-    rw (c.refused.ensures c.args.place.now, c.give.ensures.front, behind_is one front c.requires.0 first)
+    rw (c.refused.ensures c.args.place.now, c.give.ensures.buffered, behind_is one buffered c.requires.0 first)
     (tells_refused c.args.number c.args.least _ _ _ _ first.text false c.in-Err.why
-    (reads_first one front c.requires.0 _ _ left first c.give.ensures.room)
+    (reads_first one buffered c.requires.0 _ _ left first c.give.ensures.room)
     (told_bad c.args.least c.args.number first.text one.line c.in-Err.why first.means c.in-Err.ensures))
 
 pub returns-in-Err-clause-given : goal.returns-in-Err-clause-given
@@ -63,7 +63,7 @@ returns-in-Err-clause-given c = rw (c.refused.ensures c.args.place.now) (gives_r
 
 pub returns-in-Err-clause-behind : goal.returns-in-Err-clause-behind
 returns-in-Err-clause-behind c = λ behind first.
-    c.give.ensures.front ∙ behind_is c.args.one c.args.buf.now.front behind first
+    c.give.ensures.buffered ∙ behind_is c.args.one c.args.buf.now.buffered behind first
 
 pub returns-in-Err-clause-no_fault : goal.returns-in-Err-clause-no_fault
 returns-in-Err-clause-no_fault c =

@@ -10,9 +10,9 @@ pub invariant_of-result : goal.invariant_of-result
 invariant_of-result c =
     let r = c.requires in
     let solo = c.args.saver.solo in
-    let leaves : LeavesFile solo r.0 r.1 = leaves_file c.args.saver r.0 r.1 r.2 r.3 c.len-count.ensures.book
-    (subst (All IsImsi) c.imsis.ensures c.known_imsis.ensures)
-    (subst (All IsKnown) c.deref.ensures.value c.in_ok-known_subscribers.ensures) in (
+    let leaves : LeavesFile solo r.0 r.1 = leaves_file c.args.saver r.0 r.1 r.2 r.3 c.imsis.ensures.book
+    (subst (All IsImsi) c.imsis.ensures.value c.known_imsis.ensures)
+    (subst (All IsKnown) c.deref.ensures.value c.known_subscribers.ensures) in (
       file_kept solo r.0 c.args.saver.lines c.args.saver.latest r.1 leaves r.2.count r.2.moment,
       places solo r.0 r.1 leaves,
       file_rests solo r.0 r.1 leaves,
@@ -21,9 +21,9 @@ invariant_of-result c =
 pub returns : goal.returns
 returns c = λ done latest taken few.
     let solo = c.args.saver.solo in
-    let leaves : LeavesFile solo done latest = leaves_file c.args.saver done latest taken few c.len-count.ensures.book
-    (subst (All IsImsi) c.imsis.ensures c.known_imsis.ensures)
-    (subst (All IsKnown) c.deref.ensures.value c.in_ok-known_subscribers.ensures) in
+    let leaves : LeavesFile solo done latest = leaves_file c.args.saver done latest taken few c.imsis.ensures.book
+    (subst (All IsImsi) c.imsis.ensures.value c.known_imsis.ensures)
+    (subst (All IsKnown) c.deref.ensures.value c.known_subscribers.ensures) in
     record {
       gateway = gateway_of solo;
       told = taken.told;

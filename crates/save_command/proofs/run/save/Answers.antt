@@ -1,4 +1,4 @@
-use Rattle.std.proofs.Common.{◌≡◌, List, Option, ℕ, ◌∙◌, subst, sym}
+use Rattle.std.proofs.Common.{List, Option, ℕ, ◌∙◌, subst, sym}
 use Rattle.pc_outside.specs.WhereTold.{WhereTold}
 use Rattle.trace_run.specs.Lines.{Reached}
 use Rattle.trace_run.specs.declared.ending.Ending.{Ending}

@@ -1,4 +1,4 @@
-use Rattle.std.proofs.Common.{◌≡◌, ◌<◌, ◌++◌, ◌^◌, length, refl, sym, ap, subst, ◌∙◌, arith}
+use Rattle.std.proofs.Common.{◌≡◌, ◌++◌, length, refl, sym, ap, subst, ◌∙◌}
 use Rattle.std.proofs.lemmas.List.Elements.{All-push}
 use Rattle.demux.specs.Packets.{numbered}
 use Rattle.gate_model.specs.SlotPast.{past_of, records_after}
@@ -7,7 +7,8 @@ use Rattle.report_lines.specs.Lent.{IsShort}
 use Rattle.slot_execution.specs.Lending.{HasOctets, verdict_with}
 use Rattle.slot_execution.specs.Replaying.{AreShort}
 use Rattle.slot_execution.specs.declared.replayed.NumberedVerdict.{NumberedVerdict}
-use Rattle.slot_execution.proofs.Octets.{lent_octets, with_own}
+use Rattle.slot_execution.proofs.LentOctets.{with_own}
+use Rattle.slot_execution.proofs.Octets.{lent_octets}
 use Rattle.slot_execution.proofs.Steps.{plays_packet, room_for}
 use Rattle.slot_execution.proofs.executing.do_packet.Goals as goal
 
@@ -37,8 +38,6 @@ returns-clause-plays c = λ slot before now plays.
 
 pub returns-clause-short : goal.returns-clause-short
 returns-clause-short c = λ short.
-    let few : length c.octets.result.now < 2 ^ 16 =
-    omega (arith, ap length c.octets.ensures.octets, c.total_len-len.ensures.len, c.total_len-len.type_inv) in
     subst AreShort (sym c.in_ok-push_back.ensures.items)
     (All-push (λ (judged : NumberedVerdict). IsShort judged.verdict) c.args.replayed.now.packets.items _ short
-    (c.lend_again.ensures.short few))
+    (c.lend_again.ensures.short c.octets.ensures.whole))

@@ -2,7 +2,7 @@ use Rattle.std.proofs.Common.{◌≡◌, List, ℕ, ◌++◌, map, ap, ◌∙◌
 use Rattle.std.proofs.lemmas.Simd.{put_chunk_whole}
 use lib.ListN.{replicate}
 use Rattle.text_fields.specs.Blocks.{high_digit, low_digit}
-use Rattle.text_fields.proofs.EncodeLemmas.{front_of, eight_digits}
+use Rattle.text_fields.proofs.EncodeLemmas.{prefix_of, eight_digits}
 use Rattle.text_fields.proofs.encoding.encode_eight.Goals as goal
 
 pub returns : goal.returns
@@ -15,5 +15,5 @@ returns c =
     let high : c.high_digits-high.result ≡ map high_digit padded = c.high_digits-high.ensures ∙ ap (map high_digit) is in
     let low : c.low_digits-low.result ≡ map low_digit padded = c.low_digits-low.ensures ∙ ap (map low_digit) is in
     let joined : both ≡ map high_digit padded ++ map low_digit padded = cc in
-    put_chunk_whole c.args.digits.now (front_of both) c.requires.digits ∙ ap front_of joined
+    put_chunk_whole c.args.digits.now (prefix_of both) c.requires.digits ∙ ap prefix_of joined
     ∙ eight_digits octets c.requires.octets

@@ -1,13 +1,13 @@
 use Rattle.std.proofs.Common.{arith}
 use Rattle.tft_codec.specs.declared.component.Component.TheVariants.{RemoteAddr}
-use Rattle.tft_codec.proofs.Bounds.{front_bound, whole_bound}
+use Rattle.tft_codec.proofs.Bounds.{prefix_bound, whole_bound}
 use Rattle.tft_codec.proofs.writing.contents_len.Goals as goal
 
 pub overflow_add-len : goal.overflow_add-len
 overflow_add-len c =
     omega (
       arith,
-      front_bound c.args.components.now c.loop-component.component-index
+      prefix_bound c.args.components.now c.loop-component.component-index
           (RemoteAddr 0 0) c.loop-component-test.true c.requires,
       c.loop-component.invariant,
       c.text_len-len.ensures,

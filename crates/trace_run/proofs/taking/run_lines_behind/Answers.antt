@@ -80,5 +80,5 @@ pub returns-in-End-clause-ended : goal.returns-in-End-clause-ended
 returns-in-End-clause-ended g c =
     let p = c.loop-len.invariant.taken in
     ends _ _ Ended _ _ _ _ _ _ _ _ p.0 p.1
-    (reached_end _ _ _ _ _ _ _ (g.L.LineReader.holds c.next.new.self).room (g.L.LineReader.holds c.next.new.self).front
+    (reached_end _ _ _ _ _ _ _ (g.L.LineReader.holds c.next.new.self).room (g.L.LineReader.holds c.next.new.self).buffered
     p.0 p.1.read c.in-End.ensures.tells)

@@ -9,8 +9,8 @@ abbrev pub invariant-loop-len : goal.invariant-loop-len
 invariant-loop-len g l = record {
   taken : (done : List Line) × TakenSoFar (behind (g.L.LineReader.holds l.fn.reader).room l.fn.lines l.fn.least)
       (g.T.LineTaker.represents l.fn.taker l.taker)
-      (prepend_known (g.L.LineReader.holds l.fn.reader).front (g.S.Source.left l.fn.source))
-      (prepend_known (g.L.LineReader.holds l.reader).front (g.S.Source.left l.source)) (g.K.Sink.written l.fn.sink)
+      (prepend_known (g.L.LineReader.holds l.fn.reader).buffered (g.S.Source.left l.fn.source))
+      (prepend_known (g.L.LineReader.holds l.reader).buffered (g.S.Source.left l.source)) (g.K.Sink.written l.fn.sink)
       (g.K.Sink.written l.sink) l.lines l.least (g.L.LineReader.holds l.reader).room done;
   ready : g.L.LineReader.is_ready l.reader;
   source_later : g.S.Source.faults l.fn.source ≤ g.S.Source.faults l.source;

@@ -12,10 +12,10 @@ use Rattle.audit_core.proofs.judge.Judge.judge_effects.Goals as goal
 pub returns-clause-judged : goal.returns-clause-judged
 returns-clause-judged c = λ own at epoch many due_is judged.
     let told = lent c.as_slice.result.now in
-    let those = effects_told own.made (length at.front) own.entries in
+    let those = effects_told own.made (length at.prefix) own.entries in
     let told_is : told ≡ those =
     ap lent c.as_slice.ensures.value ∙ c.in_ok-told.ensures
-    ∙ effects_belong own.made own.entries c.args.entries.now (length at.front) epoch.those in
+    ∙ effects_belong own.made own.entries c.args.entries.now (length at.prefix) epoch.those in
     judged_on own at 6 of.Effects c.in_ok-found.found c.args.self.now c.offer.new.self c.offer.ensures.broken
     c.offer.ensures.entries
     (effects_step own at epoch.parts epoch.told_parts epoch.as_many c.args.self.now.broken c.in_ok-found.found

@@ -33,7 +33,7 @@ epoch_order-requires c =
       own.entries,
       due_of own at.told,
       told.held,
-      stand_in own.made own.entries c.args.entries.now (length at.front) told.epoch.those,
+      stand_in own.made own.entries c.args.entries.now (length at.prefix) told.epoch.those,
       so_before own at c.args.self.now.entries (c.requires.3.partly.old of.Order low (omega arith))
           (c.requires.3.counted low),
     )
@@ -41,7 +41,7 @@ epoch_order-requires c =
 pub returns-clause-judged : goal.returns-clause-judged
 returns-clause-judged c = λ own at told effects_are rows_are judged.
     let low : rank_of of.Order < asked_of c.args.self.now.broken = c.wants.ensures.0 c.if-not-wants.false in
-    let stood = stand_in own.made own.entries c.args.entries.now (length at.front) told.epoch.those in
+    let stood = stand_in own.made own.entries c.args.entries.now (length at.prefix) told.epoch.those in
     let so = so_before own at c.args.self.now.entries (judged.partly.old of.Order low (omega arith)) (judged.counted low) in
     let lines_are = told.is in
     subst (Partly own (Before own at) (With own at) 11) (sym c.offer.ensures.broken)
@@ -58,7 +58,7 @@ returns-clause-judged c = λ own at told effects_are rows_are judged.
 pub returns-clause-counted : goal.returns-clause-counted
 returns-clause-counted c = λ own at told effects_are rows_are judged less.
     let low : rank_of of.Order < asked_of c.args.self.now.broken = c.wants.ensures.0 c.if-not-wants.false in
-    let stood = stand_in own.made own.entries c.args.entries.now (length at.front) told.epoch.those in
+    let stood = stand_in own.made own.entries c.args.entries.now (length at.prefix) told.epoch.those in
     let so = so_before own at c.args.self.now.entries (judged.partly.old of.Order low (omega arith)) (judged.counted low) in
     c.offer.ensures.entries
     ∙ counted_step own at told.epoch.parts told.epoch.told_parts told.epoch.as_many (effects_lent c.args.effects.now)

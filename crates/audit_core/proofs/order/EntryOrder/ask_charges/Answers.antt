@@ -6,11 +6,11 @@ use Rattle.audit_core.proofs.order.EntryOrder.ask_charges.Goals as goal
 
 pub loop-charge-preserved : goal.loop-charge-preserved
 loop-charge-preserved c = λ made entries asked asks.
-    let front = asked ++ map entry.Charge (take c.loop-charge.charge-index c.args.charges.now) in
+    let prefix = asked ++ map entry.Charge (take c.loop-charge.charge-index c.args.charges.now) in
     subst (λ a. Asks made entries a c.ask.new.self)
     (more_asked entry.Charge asked c.args.charges.now c.loop-charge.charge-index c.charge-item.result
     c.loop-charge-test.true c.charge-item.is)
-    (c.in_ok-ask.ensures made entries front (c.loop-charge.invariant made entries asked asks))
+    (c.in_ok-ask.ensures made entries prefix (c.loop-charge.invariant made entries asked asks))
 
 pub returns : goal.returns
 returns c = λ made entries asked asks.

@@ -7,11 +7,11 @@ use Rattle.audit_core.proofs.order.EntryOrder.ask_effects.Goals as goal
 
 pub loop-effect-preserved : goal.loop-effect-preserved
 loop-effect-preserved c = λ made entries asked asks.
-    let front = asked ++ map entry.Effect (effects_lent (take c.loop-effect.effect-index c.args.effects.now)) in
+    let prefix = asked ++ map entry.Effect (effects_lent (take c.loop-effect.effect-index c.args.effects.now)) in
     subst (λ a. Asks made entries a c.ask.new.self)
     (effect_more asked c.args.effects.now c.loop-effect.effect-index c.effect-item.result
     c.loop-effect-test.true c.effect-item.is)
-    (c.in_ok-ask.ensures made entries front (c.loop-effect.invariant made entries asked asks))
+    (c.in_ok-ask.ensures made entries prefix (c.loop-effect.invariant made entries asked asks))
 
 pub returns : goal.returns
 returns c = λ made entries asked asks.

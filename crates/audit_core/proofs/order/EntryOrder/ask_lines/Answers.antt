@@ -9,12 +9,12 @@ use Rattle.audit_core.proofs.order.EntryOrder.ask_lines.Goals as goal
 
 pub loop-told-preserved : goal.loop-told-preserved
 loop-told-preserved c = λ made entries asked asks.
-    let front = asked ++ map entry.Line
+    let prefix = asked ++ map entry.Line
     (map (λ (told : LineTold). told.entry) (lines_of (take c.loop-told.told-index c.args.lines.now))) in
     subst (λ a. Asks made entries a c.ask.new.self)
     (line_more asked c.args.lines.now c.loop-told.told-index c.told-item.result
     c.loop-told-test.true c.told-item.is)
-    (c.in_ok-ask.ensures made entries front (c.loop-told.invariant made entries asked asks))
+    (c.in_ok-ask.ensures made entries prefix (c.loop-told.invariant made entries asked asks))
 
 pub returns : goal.returns
 returns c = λ made entries asked asks.

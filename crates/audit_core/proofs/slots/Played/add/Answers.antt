@@ -56,3 +56,6 @@ returns-clause-plays c = λ first histories all represents are same below.
 pub returns-clause-rest : goal.returns-clause-rest
 returns-clause-rest c = λ slices count latest rest late.
     on_known c.add_made.result (c.in_ok-replayed.ensures.rest slices count latest c.args.slot rest late)
+
+pub returns-clause-destination : goal.returns-clause-destination
+returns-clause-destination c = on_known c.add_made.result c.in_ok-replayed.ensures.destination

@@ -1,4 +1,4 @@
-use Rattle.std.proofs.Common.{◌≡◌, ℕ, ◌+◌, ◌==◌, sym, ap, ◌∙◌, arith, get_or, length}
+use Rattle.std.proofs.Common.{ℕ, ◌+◌, ◌==◌, sym, ap, ◌∙◌, arith}
 use Rattle.std.specs.List.{count_by}
 use Rattle.std.specs.Global.{Vec}
 use Rattle.balance_plan.specs.Packets.{packets_between}

@@ -1,4 +1,4 @@
-use Rattle.std.proofs.Common.{◌-◌, ◌≡◌, ◌<◌, List, None, Some, get_or, length, refl, sym, ap, ◌∙◌, subst, arith}
+use Rattle.std.proofs.Common.{◌-◌, ◌≡◌, ◌<◌, None, Some, get_or, length, sym, ap, ◌∙◌, subst, arith}
 use Rattle.std.specs.Option.{option_map}
 use Rattle.balance_plan.specs.Shares.{MayGo}
 use Rattle.balance_plan.specs.Steps.{goes, greatest, least}

@@ -1,4 +1,4 @@
-use Rattle.std.proofs.Common.{◌≡◌, ◌++◌, ◌∷◌, refl, ap, ◌∙◌}
+use Rattle.std.proofs.Common.{◌≡◌, ◌++◌, ap, ◌∙◌}
 use Rattle.balance_plan.specs.Written.{given, written_text}
 use Rattle.balance_plan.proofs.WriterLemmas.{on_ok, stands_next}
 use Rattle.balance_plan.proofs.writing.Writer.give.Goals as goal

@@ -16,13 +16,13 @@ returns-clause-stands c = λ written stands.
     let line = c.move_of-line.result in
     let is : line ≡ move_line fence book step =
     c.move_of-line.ensures
-    ∙ ap (λ imsis. move_line fence imsis step) (c.deref.ensures.value ∙ c.requires.writer.imsis) in
+    ∙ ap (λ imsis. move_line fence imsis step) c.imsis.ensures.value in
     let inside : step.slot < length old.bound.items =
-    omega (arith, c.requires.step.slot, c.len-known.ensures.book.short, c.requires.writer.places) in
+    omega (arith, c.requires.step.slot, c.imsis.ensures.book.short, c.requires.writer.places) in
     on_ok (c.push_line.new.text ≡ old.text ++ (line_text line ++ newline ∷ [])) _ c.push_line.result
     (λ text. stands_next old _ written (planned (move_line fence book step)) (decision.Move step.slot step.slice) stands
-    (move_decided old.slices book fence step c.len-known.ensures.book c.requires.step.slot c.requires.step.slice)
-    (move_keeps old.slices book fence step c.len-known.ensures.book c.requires.step.slot c.requires.step.slice) refl refl
+    (move_decided old.slices book fence step c.imsis.ensures.book c.requires.step.slot c.requires.step.slice)
+    (move_keeps old.slices book fence step c.imsis.ensures.book c.requires.step.slot c.requires.step.slice) refl refl
     (λ slot below. ap (λ b. get_or b slot 0) c.bind.ensures
     ∙ bound_set old.bound.items step.slot step.slice slot inside)
     (text ∙ ap (λ l. old.text ++ (line_text l ++ newline ∷ [])) is))

@@ -1,4 +1,4 @@
-use Rattle.std.proofs.Common.{◌≡◌, ◌<◌, ◌++◌, ◌∷◌, [], refl, ap, sym, ◌∙◌, subst, arith, map, take, length, append-nil}
+use Rattle.std.proofs.Common.{◌++◌, ◌∷◌, [], refl, sym, ◌∙◌, subst, map, take, append-nil}
 use Rattle.balance_plan.specs.Plans.{move_line}
 use Rattle.balance_plan.specs.Written.{planned}
 use Rattle.balance_plan.specs.Writing.{Stands}

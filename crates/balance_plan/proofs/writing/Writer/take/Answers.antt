@@ -1,4 +1,4 @@
-use Rattle.std.proofs.Common.{◌≡◌, ◌+◌, ◌++◌, ◌∷◌, [], map, ap, sym, ◌∙◌, subst}
+use Rattle.std.proofs.Common.{◌+◌, ◌++◌, ◌∷◌, [], map, ap, sym, ◌∙◌, subst}
 use Rattle.balance_plan.specs.Balance.{balance_of}
 use Rattle.balance_plan.specs.Plans.{moves_at}
 use Rattle.balance_plan.specs.Written.{given, lines_of, planned}

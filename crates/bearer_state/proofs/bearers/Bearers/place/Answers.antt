@@ -1,7 +1,6 @@
-use Rattle.std.proofs.Common.{◌≡◌, refl, sym, ap, ◌∙◌}
+use Rattle.std.proofs.Common.{◌≡◌, refl}
 use Rattle.std.specs.List.{insert}
 use Rattle.bearer_state.specs.Changes.{placed}
-use Rattle.bearer_state.specs.Lookup.{has_index}
 use Rattle.bearer_state.proofs.BearerLemmas.{bearers_placed}
 use Rattle.bearer_state.proofs.bearers.Bearers.place.Goals as goal
 

@@ -1,10 +1,8 @@
-use Rattle.std.proofs.Common.{◌≡◌, position, List, set, get_or, Option, Some, None, refl, sym, ap, ◌∙◌}
-use Rattle.std.specs.List.{remove}
-use Rattle.bearer_state.specs.Bearer.{is_active, is_asked, AreBearers}
-use Rattle.bearer_state.specs.Lookup.{is_dedicated}
-use Rattle.bearer_state.specs.Changes.{with_first, without_first, filtered, granted_bearer}
-use Rattle.bearer_state.proofs.FirstLemmas.{with_first-set, without_first-at, with_first-none, without_first-none, none_from_not}
-use Rattle.bearer_state.proofs.BearerLemmas.{bearers_without, bearers_filtered, bearers_granted}
+use Rattle.std.proofs.Common.{position, sym, ap, ◌∙◌}
+use Rattle.bearer_state.specs.Bearer.{is_active}
+use Rattle.bearer_state.specs.Changes.{with_first, filtered}
+use Rattle.bearer_state.proofs.FirstLemmas.{with_first-set, with_first-none, none_from_not}
+use Rattle.bearer_state.proofs.BearerLemmas.{bearers_filtered}
 use Rattle.bearer_state.proofs.bearers.Bearers.set_filters.Goals as goal
 
 pub invariant_of-self : goal.invariant_of-self

@@ -1,6 +1,5 @@
 use Rattle.std.proofs.Common.{[], ◌∷◌, ◌++◌, set, ap, subst, ◌∙◌, rules}
 use Rattle.std.specs.List.{remove}
-use Rattle.std.proofs.lemmas.Slice.{pushed}
 use Rattle.charging_book.specs.Counters.{row_from}
 use Rattle.charging_book.proofs.Standing.{is-at, stands-marked, stands-gone, lives-marked}
 use Rattle.charging_book.specs.Happenings.{lives_of}
@@ -25,7 +24,7 @@ returns-in-Gone-clause-stands c = λ happened taken stands.
     rw c.in-Gone.is (stands-gone old _ happened taken c.args.life place counters moments stands at c.requires.is_open
     (c.remove.ensures.items ∙ ap (λ xs. remove xs place) opens)
     (c.remove-in-Gone.ensures.items ∙ ap (λ xs. remove xs place) spans)
-    (pushed (c.new.result ∷ []) (ap (λ book. book.rows) c.self.view_is) c.in_ok-push.was c.push.ensures.items
+    (c.in_ok-push_one.ensures.pushed ∙ ap (λ xs. xs ++ c.new.result ∷ []) (ap (λ book. book.rows) c.self.view_is)
     ∙ ap (λ row. old.rows ++ row ∷ []) (c.new.ensures ∙ ap (row_from counters moments) c.in-Gone.is)))
 
 pub returns-in_default-clause-stands : goal.returns-in_default-clause-stands
@@ -45,7 +44,7 @@ returns-in_default-clause-stands c = λ happened taken stands.
     (lives-marked (lives_of happened) c.args.life c.args.why c.in_default.not-Gone)
     (ap (λ xs. set xs place c.next.result) opens ∙ ap (set old.opens place) c.next.ensures)
     (ap (λ xs. set xs place c.new-in_default.result) spans ∙ ap (set old.moments place) c.new-in_default.ensures)
-    (pushed (c.new.result ∷ []) (ap (λ book. book.rows) c.self.view_is) c.in_ok-push.was c.push.ensures.items
+    (c.in_ok-push_one.ensures.pushed ∙ ap (λ xs. xs ++ c.new.result ∷ []) (ap (λ book. book.rows) c.self.view_is)
     ∙ ap (λ row. old.rows ++ row ∷ []) c.new.ensures)
 
 pub returns-in-Gone-clause-pieces : goal.returns-in-Gone-clause-pieces
@@ -65,7 +64,7 @@ returns-in-Gone-clause-pieces c =
     rw c.in-Gone.is (goes-gone old _ c.args.life place counters moments distinct at
     (c.remove.ensures.items ∙ ap (λ xs. remove xs place) opens)
     (c.remove-in-Gone.ensures.items ∙ ap (λ xs. remove xs place) spans)
-    (pushed (c.new.result ∷ []) (ap (λ book. book.rows) c.self.view_is) c.in_ok-push.was c.push.ensures.items
+    (c.in_ok-push_one.ensures.pushed ∙ ap (λ xs. xs ++ c.new.result ∷ []) (ap (λ book. book.rows) c.self.view_is)
     ∙ ap (λ row. old.rows ++ row ∷ []) (c.new.ensures ∙ ap (row_from counters moments) c.in-Gone.is)))
 
 pub returns-in_default-clause-pieces : goal.returns-in_default-clause-pieces
@@ -85,7 +84,7 @@ returns-in_default-clause-pieces c =
     goes-marked old _ c.args.life place c.args.why counters moments distinct at c.in_default.not-Gone
     (ap (λ xs. set xs place c.next.result) opens ∙ ap (set old.opens place) c.next.ensures)
     (ap (λ xs. set xs place c.new-in_default.result) spans ∙ ap (set old.moments place) c.new-in_default.ensures)
-    (pushed (c.new.result ∷ []) (ap (λ book. book.rows) c.self.view_is) c.in_ok-push.was c.push.ensures.items
+    (c.in_ok-push_one.ensures.pushed ∙ ap (λ xs. xs ++ c.new.result ∷ []) (ap (λ book. book.rows) c.self.view_is)
     ∙ ap (λ row. old.rows ++ row ∷ []) c.new.ensures)
 
 pub invariant_of-self-in-Gone : goal.invariant_of-self-in-Gone

@@ -1,9 +1,7 @@
 use Rattle.std.proofs.Common.{◌≡◌, ℕ, List, [], ◌∷◌, ◌++◌, length, set, get_or, ap, sym, subst, ◌<◌, ◌∙◌, rules}
 use Rattle.std.proofs.lemmas.List.{get_or-map, get_or_default}
-use Rattle.std.proofs.lemmas.Slice.{pushed}
-use Rattle.charging_book.specs.declared.records.Why.TheVariants.{Volume}
 use Rattle.charging_book.specs.Rows.{Counters}
-use Rattle.charging_book.specs.Counters.{next_piece, no_moments, row_from}
+use Rattle.charging_book.specs.Counters.{next_piece, no_moments}
 use Rattle.charging_book.specs.Accounts.{Accounts}
 use Rattle.charging_book.proofs.PartLemmas.{lives_in, distinct_set}
 use Rattle.charging_book.proofs.accounts.Book.fill_at.Goals as goal
@@ -21,8 +19,8 @@ returns-clause-filled c =
     let moments : set c.self.inside.spans.items place c.new-2.result ≡ set old.moments place no_moments =
     ap (λ (book : Accounts). set book.moments place c.new-2.result) c.self.view_is
     ∙ ap (set old.moments place) c.new-2.ensures in
-    let rows = pushed (c.new.result ∷ []) (ap (λ (book : Accounts). book.rows) c.self.view_is) c.in_ok-push.was
-    c.push.ensures.items
+    let rows = c.in_ok-push_one.ensures.pushed
+    ∙ ap (λ (book : Accounts). book.rows ++ c.new.result ∷ []) c.self.view_is
     ∙ ap (λ row. old.rows ++ row ∷ []) c.new.ensures in
     cc (opens, moments, rows)
 

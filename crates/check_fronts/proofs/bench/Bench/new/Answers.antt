@@ -1,4 +1,4 @@
-use Rattle.std.proofs.Common.{[], refl, ap, ◌∙◌}
+use Rattle.std.proofs.Common.{[], ap, ◌∙◌}
 use Rattle.lawful_run.specs.Run.{no_events}
 use Rattle.at_rest.specs.Rest.{Rest}
 use Rattle.check_fronts.proofs.Opens.{opens}

@@ -1,4 +1,4 @@
-use Rattle.std.proofs.Common.{refl, arith}
+use Rattle.std.proofs.Common.{◌≡◌, refl, sym, ◌∙◌, rules}
 use Rattle.check_fronts.proofs.Opens.{stays_open}
 use Rattle.check_fronts.proofs.bench.Bench.take.Goals as goal
 
@@ -8,9 +8,10 @@ line-requires-clause-whole g c = c.requires.open_.workers.whole
 pub returns : goal.returns
 returns g c =
     let took = c.in_ok-_took.ensures in
+    let moment : c.line.inside.moment ≡ c.args.line.now.moment = search rules in
     record {
       setup = c.requires.setup;
       open_ = stays_open c.args.self.now.opened _ c.requires.open_ took.whole took.opened took.lanes.0 took.lanes.1 refl
           refl refl;
-      latest = took.counts.1;
+      latest = took.counts.1 ∙ sym moment;
     }

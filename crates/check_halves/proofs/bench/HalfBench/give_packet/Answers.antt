@@ -1,4 +1,4 @@
-use Rattle.std.proofs.Common.{◌≡◌, ℕ, ◌≤◌, arith, unwrap_or, List, [], ◌∷◌, ◌++◌, All, ap, sym, ◌∙◌, subst, append_assoc}
+use Rattle.std.proofs.Common.{◌≡◌, ℕ, ◌≤◌, arith, unwrap_or, List, [], ◌∷◌, ◌++◌, All, ap, sym, ◌∙◌, subst, append_assoc, rules}
 use Rattle.std.proofs.lemmas.List.Elements.{All-push, All-weaker}
 use Rattle.pc_base.specs.declared.packet.Packet.{Packet}
 use Rattle.subscriber.specs.Standing.{last_of}
@@ -15,7 +15,7 @@ invariant_of-self-2 c =
     let made = c.packet_item-item.ensures.made in
     let same = c.accepted.ensures.same in
     let items = handled_by old.data_half ++ old.left.items in
-    let at = ap (λ (p : Packet). p.moment) c.packet.view_is in
+    let at : c.packet-inside.inside.0.1.0.0 ≡ c.args.packet.moment = search rules in
     let carried = ap (λ (p : Packet). p.moment) made.packet_is in
     let number = ap (λ (p : Packet). p.number) made.packet_is in
     let high : old.last ≤ item.packet.moment = omega (arith, at, carried, c.if-moment-self.false) in
@@ -36,13 +36,13 @@ invariant_of-self-2 c =
           (accepted_packet old.front c.accepted.new.self items same old.accepted item old.last
           c.accepted.ensures.commands.0 c.accepted.ensures.packets made.slot made.number number
           c.packet_item-item.ensures.standing old.begun old.late high);
-      begun = subst (λ (n : ℕ). n ≤ c.packet.inside.0.1.0.0)
+      begun = subst (λ (n : ℕ). n ≤ c.packet-inside.inside.0.1.0.0)
           (λ i. unwrap_or (last_of (unbound (sym same.started i).value)) 0)
           (omega (arith, old.begun, high, at, carried));
-      late = subst (All (λ (i : DataItem). i.packet.moment ≤ c.packet.inside.0.1.0.0)) whole
-          (All-push (λ (i : DataItem). i.packet.moment ≤ c.packet.inside.0.1.0.0) items item
+      late = subst (All (λ (i : DataItem). i.packet.moment ≤ c.packet-inside.inside.0.1.0.0)) whole
+          (All-push (λ (i : DataItem). i.packet.moment ≤ c.packet-inside.inside.0.1.0.0) items item
           (All-weaker (λ (i : DataItem). i.packet.moment ≤ old.last)
-          (λ (i : DataItem). i.packet.moment ≤ c.packet.inside.0.1.0.0)
+          (λ (i : DataItem). i.packet.moment ≤ c.packet-inside.inside.0.1.0.0)
           (λ i low. omega (arith, low, high, at, carried)) items old.late) (omega (arith, at, carried)));
       moved = c.accepted.ensures.hop ∙ old.moved;
     }

@@ -1,4 +1,4 @@
-use Rattle.std.proofs.Common.{◌≡◌, ◌+◌, arith, ap, ◌∙◌, true≢false}
+use Rattle.std.proofs.Common.{arith, ap, ◌∙◌, true≢false}
 use Rattle.lane_core.specs.Ends.{taken, empty_answers}
 use Rattle.control_half.specs.Turns.{size}
 use Rattle.control_half.proofs.Turned.{same_more, grew_more, grew_none, not_fewer}

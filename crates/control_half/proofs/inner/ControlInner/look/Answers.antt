@@ -15,8 +15,8 @@ pub invariant_of-self-clause-applies : goal.invariant_of-self-clause-applies
 invariant_of-self-clause-applies g c =
     let old = c.args.self.now in
     let none : old.head ≡ None = none_of old.head (c.is_none.ensures ∙ ap not c.if-is_none.true) in
-    let front = (looked _ _ c.take.result (taken old.commands) (taken c.take.new.self) c.take.ensures.next).0 in
+    let prefix = (looked _ _ c.take.result (taken old.commands) (taken c.take.new.self) c.take.ensures.next).0 in
     subst (λ (l : List CommandItem). HasApplied old.first old.started l old.control.session old.control.number
     old.control.notes.items
     (in_batches (sent old.versions) ++ (in_kept old.batch ++ in_due old.due old.control.session old.control.number)))
-    (ap (λ h. before_head h (taken old.commands)) none ∙ front) old.applies
+    (ap (λ h. before_head h (taken old.commands)) none ∙ prefix) old.applies

@@ -1,4 +1,3 @@
-use Rattle.std.proofs.Common.{sym, ◌∙◌}
 use Rattle.lane_core.specs.Ends.{sent, taken}
 use Rattle.control_half.specs.Applied.{before_head}
 use Rattle.control_half.proofs.Sending.{due_is_next}

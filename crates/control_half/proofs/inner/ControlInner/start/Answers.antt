@@ -1,4 +1,4 @@
-use Rattle.std.proofs.Common.{rules, [], refl, ap, sym, ◌∙◌}
+use Rattle.std.proofs.Common.{rules, [], refl, ap, sym}
 use Rattle.lane_core.specs.Ends.{sent, taken}
 use Rattle.control_half.specs.Published.{in_batches}
 use Rattle.control_half.proofs.Applying.{applied_none}

@@ -1,4 +1,4 @@
-use Rattle.std.proofs.Common.{◌≡◌, ℕ, ◌+◌, List, length, refl, sym, ap, subst, ◌∙◌, arith}
+use Rattle.std.proofs.Common.{◌+◌, List, length, refl, sym, ap, subst, ◌∙◌, arith}
 use Rattle.epoch_schedule.specs.TurnsTold.{AreWorkers, turns_behind, turns_told}
 use Rattle.subscriber.specs.Standing.{SubscriberState}
 use Rattle.at_rest.specs.Rest.{Rest}

@@ -15,6 +15,9 @@ returns-clause-given g c =
     c.give.ensures.names c.give.ensures.lanes c.give.ensures.room refl refl refl c.give.result c.give.ensures.gives
     c.give.ensures.counts.0
 
+pub returns-clause-told : goal.returns-clause-told
+returns-clause-told g c = c.give.ensures.gives.3.told
+
 pub returns-clause-refused : goal.returns-clause-refused
 returns-clause-refused g c =
     came_back g.H.Traveller.name g.F.DataTraveller.name g.F.DataTraveller.slot_at g.F.DataTraveller.item_slot g.F.DataTraveller.handled

@@ -13,9 +13,9 @@ pub returns-clause-whole : goal.returns-clause-whole
 returns-clause-whole c =
     let inside = c.rest.inside in
     let rest : Rest = record {
-      slices = inside.slices;
-      room = inside.room;
-      lane = inside.lane;
+      slices = inside.sizes.slices;
+      room = inside.sizes.room;
+      lane = inside.sizes.lane;
       book = inside.book;
       subscribers = inside.subscribers.items;
       lines = inside.lines;
@@ -24,7 +24,7 @@ returns-clause-whole c =
     } in
     let halves : Halves = record {
       alloc = c.args.alloc;
-      room = inside.room;
+      room = inside.sizes.room;
       lots = c.new.result;
       sides = c.new-4.result;
       fulls = inside.fulls;

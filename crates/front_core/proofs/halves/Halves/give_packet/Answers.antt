@@ -2,7 +2,6 @@ use Rattle.std.proofs.Common.{◌≡◌, ◌+◌, refl, arith}
 use Rattle.front_core.proofs.Setting.{sides_settle}
 use Rattle.front_core.proofs.Trying.{no_packet_tried, packet_counted, packet_full, packet_given, packet_later, packet_tried}
 use Rattle.front_core.proofs.halves.Halves.give_packet.Goals as goal
-use Rattle.front_core.proofs.halves.Halves.give_packet.Goals.{in-Accepted-try_packet, in-Full-try_packet, in-NoMemory-try_packet}
 
 pub loop-init : goal.loop-init
 loop-init g c = no_packet_tried c.args.slot c.args.packet c.args.self.now c.requires
@@ -36,49 +35,21 @@ returns-in-NoMemory-clause-rises g c =
     packet_later c.args.slot c.args.packet c.loop.packet c.loop.counter c.args.self.now c.loop.self c.loop.invariant
     c.try_packet.new.self c.try_packet.ensures.rises
 
-pub returns-clause-rises : goal.returns-clause-rises
-returns-clause-rises g c =
-    packet_later c.args.slot c.args.packet c.loop.packet c.loop.counter c.args.self.now c.loop.self c.loop.invariant
-    c.try_packet-2.new.self c.try_packet-2.ensures.rises
-
-pub returns-clause-gives : goal.returns-clause-gives
-returns-clause-gives g c =
-    elim c.match-try_packet-2.branch [
-      | in-Accepted-try_packet w ↦
-          rw w.result-is
-          (packet_given c.args.slot c.args.packet c.loop.packet c.loop.counter c.args.self.now c.loop.self
-          c.loop.invariant c.args.line (c.args.patience + 1) w.in-Accepted-try_packet.parked c.try_packet-2.new.self
-          w.in-Accepted-try_packet.ensures.tries (omega (arith, c.loop.auto.counter-end)))
-      | in-Full-try_packet w ↦
-          let same : c.loop.counter + 1 ≡ c.args.patience + 1 =
-          omega (arith, c.loop-test.false, c.loop.auto.counter-end) in
-          rw w.result-is
-          (packet_full c.args.slot c.args.packet c.loop.packet c.loop.counter c.args.self.now c.loop.self
-          c.loop.invariant c.args.line (c.args.patience + 1) w.in-Full-try_packet.field-0 c.try_packet-2.new.self
-          w.in-Full-try_packet.ensures.tries same)
-      | in-NoMemory-try_packet w ↦ rw w.result-is tt
-    ]
-
 pub returns-in-Accepted-clause-counts : goal.returns-in-Accepted-clause-counts
 returns-in-Accepted-clause-counts g c =
     packet_counted c.args.slot c.args.packet c.loop.packet c.loop.counter c.args.self.now c.loop.self c.loop.invariant
     (c.args.patience + 1) c.in-Accepted.parked c.try_packet.new.self c.in-Accepted.ensures.counts
     (omega (arith, c.loop-test.true))
 
-pub returns-clause-counts : goal.returns-clause-counts
-returns-clause-counts g c =
-    elim c.match-try_packet-2.branch [
-      | in-Accepted-try_packet w ↦
-          rw w.result-is
-          (packet_counted c.args.slot c.args.packet c.loop.packet c.loop.counter c.args.self.now c.loop.self
-          c.loop.invariant (c.args.patience + 1) w.in-Accepted-try_packet.parked c.try_packet-2.new.self
-          w.in-Accepted-try_packet.ensures.counts (omega (arith, c.loop.auto.counter-end)))
-      | in-Full-try_packet w ↦
-          let same : c.loop.counter + 1 ≡ c.args.patience + 1 =
-          omega (arith, c.loop-test.false, c.loop.auto.counter-end) in
-          rw w.result-is
-          (packet_full c.args.slot c.args.packet c.loop.packet c.loop.counter c.args.self.now c.loop.self
-          c.loop.invariant c.args.line (c.args.patience + 1) w.in-Full-try_packet.field-0 c.try_packet-2.new.self
-          w.in-Full-try_packet.ensures.tries same).2
-      | in-NoMemory-try_packet w ↦ rw w.result-is tt
-    ]
+pub returns-in-Accepted-try_packet-clause-gives : goal.returns-in-Accepted-try_packet-clause-gives
+returns-in-Accepted-try_packet-clause-gives g c =
+    packet_given c.args.slot c.args.packet c.loop.packet c.loop.counter c.args.self.now c.loop.self c.loop.invariant
+    c.args.line (c.args.patience + 1) c.in-Accepted-try_packet.parked c.try_packet-2.new.self
+    c.in-Accepted-try_packet.ensures.tries (omega (arith, c.loop.auto.counter-end))
+
+pub returns-in-Full-try_packet-clause-gives : goal.returns-in-Full-try_packet-clause-gives
+returns-in-Full-try_packet-clause-gives g c =
+    let same : c.loop.counter + 1 ≡ c.args.patience + 1 = omega (arith, c.loop-test.false, c.loop.auto.counter-end) in
+    packet_full c.args.slot c.args.packet c.loop.packet c.loop.counter c.args.self.now c.loop.self c.loop.invariant
+    c.args.line (c.args.patience + 1) c.in-Full-try_packet.field-0 c.try_packet-2.new.self
+    c.in-Full-try_packet.ensures.tries same

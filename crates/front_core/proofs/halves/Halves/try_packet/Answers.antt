@@ -15,15 +15,15 @@ accept-requires g c =
 pub returns-in-Ok-clause-tries : goal.returns-in-Ok-clause-tries
 returns-in-Ok-clause-tries g c =
     received c.args.self.now c.slot.inside.0 c.args.slot c.slot.view_is c.requires c.args.line c.args.packet
-    c.parks-parked.result c.item_of-item.result c.index.result.now c.index.ensures c.item_of-item.ensures _
-    c.index_mut.result.now c.accept.new.lot c.index_mut.ensures.value c.parks-parked.ensures refl refl c.accept.ensures
+    c.item_of-item.result c.index.result.now c.index.ensures c.item_of-item.ensures _ c.in-Ok.parked
+    c.index_mut.result.now c.accept.new.lot c.index_mut.ensures.value c.in-Ok.ensures.told refl refl c.accept.ensures
     c.in-Ok.ensures.given
 
 pub returns-in-Err-Full-clause-tries : goal.returns-in-Err-Full-clause-tries
 returns-in-Err-Full-clause-tries g c =
     let is = c.in-Err-Full.field-0-is in
     comes_back c.args.self.now c.slot.inside.0 c.args.slot c.slot.view_is c.requires c.args.line c.args.packet
-    c.parks-parked.result c.item_of-item.result c.index.result.now c.index.ensures c.item_of-item.ensures _
+    c.item_of-item.result c.index.result.now c.index.ensures c.item_of-item.ensures _
     c.in-Err-Full.item (sym (ap no_item is) ∙ c.in-Err-Full.ensures.refused.0) c.in-Err-Full.ensures.refused.1 refl refl
     (λ lane are. c.in-Err-Full.ensures.full lane are (ap is_full is)) c.saturating_add-self.ensures
     (rw is at c.in-Err-Full.ensures.count)

@@ -1,4 +1,4 @@
-use Rattle.std.proofs.Common.{◌≡◌, ℕ, ◌∙◌, cond, ◌++◌, arith}
+use Rattle.std.proofs.Common.{ℕ, ◌∙◌, cond, ◌++◌, arith}
 use Rattle.std.specs.Prelude.{nat_eq}
 use Rattle.std.proofs.lemmas.List.Sorted.{sum_by-IsPermutation}
 use base.Stored.{coded_list}

@@ -1,4 +1,4 @@
-use Rattle.std.proofs.Common.{◌≡◌, ◌∙◌, List, [], reverse, refl, ap, arith}
+use Rattle.std.proofs.Common.{◌∙◌, [], reverse, refl, ap, arith}
 use Rattle.std.specs.List.{sum_by}
 use Rattle.worker_core.specs.Desks.{fulls_at, homes_of}
 use Rattle.migration.specs.Words.{Roll}

@@ -17,7 +17,7 @@ returns-clause-stands c = λ past taken stands late few there behind.
     (sym (ap (λ counters. counters.book) c.self.view_is)) stands.charges in
     passes_stand old _ past taken c.args.moment c.args.octets bearer c.args.up c.args.bucket stands late there behind
     (c.put.ensures ∙ ap (λ meters. put_bucket meters bearer c.args.up c.args.bucket)
-    (ap (λ counters. counters.meters) c.self.view_is))
+    (c.keep_place.ensures.same ∙ ap (λ (counters : CountersState). counters.meters) c.self.view_is))
     (c.in_ok-post_one.ensures.stands past.charged taken charges
     (may_charge old past taken c.args.moment c.args.octets bearer c.args.up stands there few))
     (ap (λ counters. counters.held) c.self.view_is) refl

@@ -19,7 +19,7 @@ returns-clause-releases c = λ base so_far known ranges there same now.
     on_ok c.tell-2.result (λ effects.
     passed_here old c.tell-2.new.self base so_far held c.args.bearer.now c.args.peer c.tried-passes.result c.args.at octets own known ranges there now
     (c.tried-passes.ensures.tries so_far.0 known.meters there (omega (arith, now))) c.if-not-passes.false
-    (c.tell-2.ensures.meters ∙ c.put.ensures)
+    (c.tell-2.ensures.meters ∙ c.in_ok-try_put.ensures.put)
     (c.tell-2.ensures.postings
     ∙ pushed (Packet c.args.bearer.now.life false
     (length octets) c.args.at ∷ []) refl c.in_ok-push.was c.push.ensures.items)
@@ -40,7 +40,7 @@ returns-clause-brings c =
     on_ok c.tell-2.result (λ effects.
     brought_yes old c.tell-2.new.self held c.args.bearer.now c.args.peer c.tried-passes.result c.args.at octets own
     c.tried-passes.ensures.left c.if-not-passes.false
-    (c.tell-2.ensures.meters ∙ c.put.ensures)
+    (c.tell-2.ensures.meters ∙ c.in_ok-try_put.ensures.put)
     (c.tell-2.ensures.postings
     ∙ pushed (Packet c.args.bearer.now.life false
     (length octets) c.args.at ∷ []) refl c.in_ok-push.was c.push.ensures.items)
@@ -61,7 +61,7 @@ returns-then-not-passes-clause-releases c = λ base so_far known ranges there sa
     on_ok c.tell.result (λ effects.
     policed_more old c.tell.new.self base so_far held c.args.bearer.now c.args.peer c.tried-passes.result c.args.at octets own
     known ranges there now (c.tried-passes.ensures.tries so_far.0 known.meters there (omega (arith, now)))
-    c.if-not-passes.true (c.tell.ensures.meters ∙ c.put.ensures) c.tell.ensures.postings
+    c.if-not-passes.true (c.tell.ensures.meters ∙ c.in_ok-try_put.ensures.put) c.tell.ensures.postings
     (effects ∙ ap (λ life. old.effects.items ++ effect.Fate held.packet.number (fate.Policed life) ∷ [])
     (ap (λ (h : HeldRow). h.life) c.held.view_is)))
     c.tell.ensures.effects
@@ -74,7 +74,7 @@ returns-then-not-passes-clause-brings c =
     let own = c.as_slice-octets.ensures ∙ ap (λ (h : HeldRow). h.packet.octets) c.held.view_is in
     on_ok c.tell.result (λ effects.
     brought_no old c.tell.new.self held c.args.bearer.now c.args.peer c.tried-passes.result c.args.at octets own
-    c.tried-passes.ensures.left c.if-not-passes.true (c.tell.ensures.meters ∙ c.put.ensures) c.tell.ensures.postings
+    c.tried-passes.ensures.left c.if-not-passes.true (c.tell.ensures.meters ∙ c.in_ok-try_put.ensures.put) c.tell.ensures.postings
     (effects ∙ ap (λ life. old.effects.items ++ effect.Fate held.packet.number (fate.Policed life) ∷ [])
     (ap (λ (h : HeldRow). h.life) c.held.view_is)))
     c.tell.ensures.effects

@@ -1,4 +1,4 @@
-use Rattle.std.proofs.Common.{rules, arith}
+use Rattle.std.proofs.Common.{rules}
 use Rattle.std.proofs.Output.{has_written_append, has_written_of_eq, writes_in_calls_nil}
 use Rattle.hex.specs.Hex.{encode_with}
 use Rattle.pc_base.proofs.HexadecimalLemmas.{encode_more}

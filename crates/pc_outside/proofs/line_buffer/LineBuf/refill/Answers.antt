@@ -9,8 +9,8 @@ returns-clause-gains g c =
     let now = c.read_behind.new.octets.items in
     record {
       given = slice_range now at (at + count);
-      front = c.in_ok-count.ensures.behind
-          ∙ ap (λ held. held.front ++ slice_range now at (at + count)) c.self.view_is;
+      buffered = c.in_ok-count.ensures.behind
+          ∙ ap (λ held. held.buffered ++ slice_range now at (at + count)) c.self.view_is;
       consumed = c.in_ok-count.ensures.given;
       counted = length-between now at (at + count) (omega (
         arith,

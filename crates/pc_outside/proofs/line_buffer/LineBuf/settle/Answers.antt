@@ -20,7 +20,7 @@ returns-in-None-clause-settled c = (
         length-between c.self.inside.octets.items c.self.inside.from c.self.inside.to
             (omega arith),
       ))
-      (rw c.deref.ensures.value at c.if-front-gt-LINE_MAX.true) (rw c.deref.ensures.value at c.in-None.ensures.none)),
+      (rw c.deref.ensures.value at c.if-buffered-gt-LINE_MAX.true) (rw c.deref.ensures.value at c.in-None.ensures.none)),
 )
 
 pub returns-in-None-2-clause-settled : goal.returns-in-None-2-clause-settled
@@ -32,7 +32,7 @@ returns-in-None-2-clause-settled c = (
         length-between c.self.inside.octets.items c.self.inside.from c.self.inside.to
             (omega arith),
       ))
-      (rw c.deref.ensures.value at c.if-front-gt-LINE_MAX.false) (rw c.deref.ensures.value at c.in-None.ensures.none)),
+      (rw c.deref.ensures.value at c.if-buffered-gt-LINE_MAX.false) (rw c.deref.ensures.value at c.in-None.ensures.none)),
 )
 
 pub returns-in-None-3-clause-waits : goal.returns-in-None-3-clause-waits
@@ -44,5 +44,5 @@ returns-in-None-3-clause-waits c = (
         length-between c.self.inside.octets.items c.self.inside.from
             c.self.inside.to (omega arith),
       ))
-      (rw c.deref.ensures.value at c.if-front-gt-LINE_MAX.false) (rw c.deref.ensures.value at c.in-None.ensures.none)),
+      (rw c.deref.ensures.value at c.if-buffered-gt-LINE_MAX.false) (rw c.deref.ensures.value at c.in-None.ensures.none)),
 )

@@ -1,6 +1,6 @@
 use Rattle.std.proofs.Common.{◌≡◌, ◌+◌, ◌-◌, ◌≤◌, length, take, drop, min, ap, ◌∙◌, arith, length-append, length-drop, length-take}
 use Rattle.std.proofs.lemmas.List.{drop_all, take_rest}
-use Rattle.pc_outside.proofs.Rests.{front_and_rest}
+use Rattle.pc_outside.proofs.Rests.{prefix_and_rest}
 use Rattle.pc_outside.proofs.sure.SureSourceSource.read.Goals as goal
 
 pub returns-clause-octets : goal.returns-clause-octets
@@ -13,7 +13,7 @@ returns-clause-octets c =
     let count : n ≡ min (length c.args.into.now) (length (drop from octets)) = c.min-count.ensures
     ∙ ap (λ xs. min (length c.args.into.now) (length xs)) left in
     let within : n ≤ length octets - from = omega (arith, length-drop from octets) in (
-      rw (← c.self.view_is) (front_and_rest octets c.copy_from_slice.new.self (drop n c.args.into.now) from n
+      rw (← c.self.view_is) (prefix_and_rest octets c.copy_from_slice.new.self (drop n c.args.into.now) from n
           (c.copy_from_slice.ensures.after ∙ ap (take n) left) within),
       λ none some. drop_all (from + n) octets
           (omega (

@@ -1,5 +1,5 @@
 use Rattle.std.proofs.Common.{◌∷◌, ◌++◌, [], OnErr, subst}
-use Rattle.pc_outside.specs.Fronts.{AppendsPrefix}
+use Rattle.pc_outside.specs.Prefixes.{AppendsPrefix}
 use Rattle.solo_command.proofs.Answered.{on_ok_both}
 use Rattle.pepc.proofs.ExportLemmas.{breaks_off, sends, stays}
 use Rattle.pepc.proofs.export.CaptureLineTaker.take.Goals as goal

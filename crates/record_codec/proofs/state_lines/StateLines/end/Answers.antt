@@ -19,9 +19,10 @@ returns-in-Some c = λ texts heard.
     let octets : c.deref.result.now ≡ state c.in-Some.file =
     subst (λ (r : Option FileState). IfSome r (λ (file : FileState). c.deref.result.now ≡ state file)) c.in-Some.is
     c.in_ok-file.ensures.found in
+    let kept : IsFile c.in-Some.file =
+    subst (λ (r : Option FileState). IfSome r IsFile) c.in-Some.is c.in_ok-file.ensures.valid in
     state_found c.args.self.now texts c.args.text.now c.in-Some.file heard c.requires
-    (sym c.is_trace.ensures ∙ c.if-not-is_trace.false) c.if-self.false (sym c.deref.ensures.value ∙ octets)
-    c.known.ensures
+    (sym c.is_trace.ensures ∙ c.if-not-is_trace.false) c.if-self.false (sym c.deref.ensures.value ∙ octets) kept
 
 pub returns-in-None : goal.returns-in-None
 returns-in-None c = λ texts heard.

@@ -5,7 +5,7 @@ use Rattle.replay_command.proofs.reader.BlockReaderLineReader.next.Goals as goal
 pub invariant_of-self : goal.invariant_of-self
 invariant_of-self g c =
     let p = c.self.invariant in
-    let are = subst (λ lines. AreFirst lines c.self.inside.buf.front p.0) c.in-Some.ensures.items p.1 in
+    let are = subst (λ lines. AreFirst lines c.self.inside.buf.buffered p.0) c.in-Some.ensures.items p.1 in
     (p.0, rw (c.give.ensures.behind are.0 are.1) are.2)
 
 pub ahead-requires-sync-R : goal.ahead-requires-sync-R

@@ -1,8 +1,8 @@
-use Rattle.std.proofs.Common.{◌∷◌, ◌++◌, [], length}
+use Rattle.std.proofs.Common.{◌∷◌, ◌++◌, []}
 use Rattle.lawful_run.proofs.CutLines.{cut_closed}
-use Rattle.solo_command.specs.Progress.{HasAnswered, closed_events, open_meant}
+use Rattle.solo_command.specs.Progress.{closed_events, open_meant}
 use Rattle.solo_command.specs.Standing.{story_of}
-use Rattle.solo_command.proofs.Answered.{on_ok, on_ok_all}
+use Rattle.solo_command.proofs.Answered.{on_ok_all}
 use Rattle.solo_command.proofs.ReportLemmas.{says_answered}
 use Rattle.solo_command.proofs.RunLemmas.{closes}
 use Rattle.solo_command.proofs.run.SoloReporter.close.Goals as goal

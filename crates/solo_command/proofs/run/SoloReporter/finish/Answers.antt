@@ -1,6 +1,6 @@
 use Rattle.std.proofs.Common.{arith, length, subst, sym}
 use Rattle.solo_command.specs.Gateway.{no_subscribers}
-use Rattle.solo_command.specs.Holding.{Holds, gateway_of}
+use Rattle.solo_command.specs.Holding.{Holds}
 use Rattle.solo_command.specs.Progress.{closed_events, open_meant}
 use Rattle.solo_command.specs.Standing.{story_of, with_end}
 use Rattle.solo_command.proofs.Answered.{on_ok_both}

@@ -1,7 +1,7 @@
 use Rattle.std.proofs.Common.{◌<◌, ◌≤◌, ◌++◌, ◌∷◌, [], List, ℕ, IfSome, refl, sym, ap, subst, ◌∙◌, arith, length}
 use Rattle.gate_model.specs.declared.event.Event.TheVariants as event
 use Rattle.demux.specs.Trace.{packet as carried}
-use Rattle.gate_model.specs.SlotPast.{past_of, records_after, verdict_after}
+use Rattle.gate_model.specs.SlotPast.{records_after, verdict_after}
 use Rattle.packet_steps.specs.Lent.{verdict_of}
 use Rattle.packet_steps.specs.Running.{planned}
 use Rattle.report_lines.specs.declared.entry.Entry.TheVariants as entry

@@ -1,4 +1,4 @@
-use Rattle.std.proofs.Common.{rules, ◌≡◌, ◌++◌, ◌∙◌, refl, subst, sym}
+use Rattle.std.proofs.Common.{rules, ◌++◌, ◌∙◌, refl, subst, sym}
 use Rattle.std.specs.Prelude.{Option, Some}
 use Rattle.std.specs.Option.{option_to_list}
 use Rattle.lane_core.specs.Ends.{sent, taken}

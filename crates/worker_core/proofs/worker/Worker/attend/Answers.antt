@@ -1,4 +1,4 @@
-use Rattle.std.proofs.Common.{rules, ◌≡◌, List, inr, subst, sym, ap, ◌∙◌}
+use Rattle.std.proofs.Common.{rules, List, inr, subst, sym, ap, ◌∙◌}
 use Rattle.std.specs.List.{All}
 use Rattle.lane_core.specs.Ends.{sent, taken, full_answers, empty_answers}
 use Rattle.worker_core.specs.Names.{Kept}

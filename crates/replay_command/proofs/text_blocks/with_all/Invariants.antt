@@ -1,5 +1,0 @@
-use Rattle.std.proofs.Common.{◌≡◌, ◌++◌, flat_map, take}
-use Rattle.replay_command.proofs.text_blocks.with_all.Given as goal
-
-abbrev pub invariant-loop-text : goal.invariant-loop-text
-invariant-loop-text l = l.whole ≡ l.fn.front ++ flat_map (λ text. text) (take l.text-index l.texts)
