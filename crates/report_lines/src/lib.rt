@@ -51,6 +51,6 @@ pub use reading::read;
 pub use std::alloc::AllocError as NoMemory;
 pub use summary::push_summary;
 pub use writing::{
-    push_answer, push_effect, push_judged, push_judged_placed, push_note, push_packet, push_placed,
-    push_refusal, push_text, text,
+    push_answer, push_effect, push_judged, push_note, push_packet, push_placed, push_refusal,
+    push_text, text,
 };

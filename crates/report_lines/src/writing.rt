@@ -187,34 +187,6 @@ pub fn push_judged(
     }
 }
 
-/// Appends the same entry with its place, and with the word of a packet that was parked, which only one with a
-/// place was.
-pub fn push_judged_placed(
-    out: &mut Text,
-    line: u64,
-    slot: Slot,
-    number: u64,
-    commands: u64,
-    verdict: &Verdict,
-    place: Option<Place>,
-    parked: bool,
-) -> Result<(), NoMemory>
-    ensures appended { OnOk result (out.new ≡ out.old ++ entry_text (entry.Line (line_entry.P (record {
-      line = line;
-      slot = slot;
-      number = number;
-      commands = commands;
-      verdict = verdict.now;
-      place = place;
-      parked = parked;
-    })))) }
-    ensures kept { OnErr result (out.new ≡ out.old) }
-{
-    let start = out.as_slice().len();
-    push_judged(out, line, slot, number, commands, verdict)?;
-    push_place_behind(out, start, place, parked)
-}
-
 /// Appends the entry without a place, of a verdict whose octets are lent. A packet that goes down is in the tunnel to
 /// its eNodeB.
 #[inline(always)]

@@ -13,7 +13,7 @@ ghost use Rattle.trace_run.specs.Noted.{noted};
 
 use charging_book::ChargeRow;
 use packet_steps::LentVerdict;
-use pc_base::{Effect, Place, Reply, Slot, Verdict};
+use pc_base::{Effect, Place, Reply, Slot};
 use slot_execution::{Caused, Closed};
 use std::alloc::AllocError;
 use text_fields::Text;
@@ -119,54 +119,6 @@ pub fn push_placed(
     })))) }
 {
     report_lines::push_placed(report, line, slot, number, commands, verdict, place, parked)?;
-    end_line(report)
-}
-
-/// Appends the line of a packet whose verdict owns its octets, without its place.
-pub fn push_judged(
-    report: &mut Text,
-    line: u64,
-    slot: Slot,
-    number: u64,
-    commands: u64,
-    verdict: &Verdict,
-) -> Result<(), AllocError>
-    ensures { OnOk result (report.new ≡ report.old ++ line_of (entry.Line (line_entry.P (record {
-      line = line;
-      slot = slot;
-      number = number;
-      commands = commands;
-      verdict = verdict.now;
-      place = None;
-      parked = false;
-    })))) }
-{
-    report_lines::push_judged(report, line, slot, number, commands, verdict)?;
-    end_line(report)
-}
-
-/// Appends the same line with the place where the packet was handled, and whether it was parked.
-pub fn push_judged_placed(
-    report: &mut Text,
-    line: u64,
-    slot: Slot,
-    number: u64,
-    commands: u64,
-    verdict: &Verdict,
-    place: Option<Place>,
-    parked: bool,
-) -> Result<(), AllocError>
-    ensures { OnOk result (report.new ≡ report.old ++ line_of (entry.Line (line_entry.P (record {
-      line = line;
-      slot = slot;
-      number = number;
-      commands = commands;
-      verdict = verdict.now;
-      place = place;
-      parked = parked;
-    })))) }
-{
-    report_lines::push_judged_placed(report, line, slot, number, commands, verdict, place, parked)?;
     end_line(report)
 }
 

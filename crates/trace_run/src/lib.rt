@@ -16,8 +16,8 @@ pub use ending::{
     Ending, Unwritten, bad_at, status_at, status_without, write_octets, write_report,
 };
 pub use entries::{
-    end_line, push_answer, push_bad, push_closing, push_effects, push_judged, push_judged_placed,
-    push_note, push_noted, push_packet, push_placed, push_records, push_refusal,
+    end_line, push_answer, push_bad, push_closing, push_effects, push_note, push_noted,
+    push_packet, push_placed, push_records, push_refusal,
 };
 pub use opens::push_opens;
 pub use reading::{LineReader, Next, given, next_line, refused};
