@@ -39,4 +39,4 @@ pub use sources::{Failed, Source};
 pub use std::alloc::AllocError as NoMemory;
 pub use std_streams::{StdSink, StdSource};
 pub use sure::{SureSink, SureSource};
-pub use writing::{WriteFault, write_whole};
+pub use writing::{Unwritten, WriteFault, write_text, write_whole};

@@ -13,8 +13,8 @@ use Rattle.pcap_form.specs.Progress.{Begins, CutAt, Cuts, Ends, IsSent, Reached,
 use Rattle.pcap_form.specs.declared.importing.Imported.TheVariants as imported
 use Rattle.pcap_form.specs.declared.importing.Stopped.{Stopped}
 use Rattle.pcap_form.specs.declared.importing.Stopped.TheVariants as stopped
-use Rattle.pcap_form.specs.declared.importing.UnwrittenTrace.{UnwrittenTrace}
-use Rattle.pcap_form.specs.declared.importing.UnwrittenTrace.TheVariants as unwritten
+use Rattle.pc_outside.specs.declared.writing.Unwritten.{Unwritten}
+use Rattle.pc_outside.specs.declared.writing.Unwritten.TheVariants as unwritten
 use Rattle.pc_outside.proofs.ToldLemmas.{told_map}
 
 -- the lines of first records are the first lines
@@ -99,7 +99,7 @@ ends_cut stop start left old mid new waiting ends cut = record {
       ∙ sym (append_assoc (trace_of ends.closed) cut.prefix cut.rest))) ends.reached;
 }
 
-reports_without : (why : UnwrittenTrace) (octets left text : List ℕ) (done : List Record) → Begins octets done
+reports_without : (why : Unwritten) (octets left text : List ℕ) (done : List Record) → Begins octets done
     → CutAt why done text
     → Reports (imported_without why) octets left text
 reports_without unwritten.WriteFault octets left text done begins cut = cut_text octets done text cut.0 begins cut.1
@@ -110,7 +110,7 @@ reports_without unwritten.NoMemory octets left text done begins cut = record {
   trace = cut.3;
 }
 
-pub cuts_run : (why : UnwrittenTrace) (start left old new : Option (List ℕ)) → Cuts why start left old new
+pub cuts_run : (why : Unwritten) (start left old new : Option (List ℕ)) → Cuts why start left old new
     → Runs (imported_without why) start left old new
 cuts_run why start left old new cuts = record {
   text = cuts.text;

@@ -1,5 +1,5 @@
 -- An import goes on, ends, or is cut.
-use Rattle.std.proofs.Common.{◌≡◌, ℕ, ◌+◌, ◌≤◌, ◌^◌, inl, inr, List, [], ◌∷◌, ◌++◌, length, drop, take, Option, None, Some, unwrap_or, Result, Ok, Err, IfErr, IsErrAnd, refl, sym, ap, ◌∙◌, subst, arith, append_assoc, append-nil}
+use Rattle.std.proofs.Common.{◌≡◌, ℕ, ◌+◌, ◌≤◌, ◌^◌, inl, inr, List, [], ◌∷◌, ◌++◌, length, drop, take, Option, None, Some, unwrap_or, Result, Ok, Err, IfErr, IsErrAnd, OnOk, refl, sym, ap, ◌∙◌, subst, arith, append_assoc, append-nil}
 use Rattle.std.specs.Io.KnownBytes.{Appends, IsAtEnd, prepend_known}
 use Rattle.std.proofs.KnownBytes.{Appends-nil, Appends-trans}
 use Rattle.std.proofs.lemmas.Grind.{flat_map-append}
@@ -12,10 +12,10 @@ use Rattle.pcap_form.specs.Trace.{Stamped, first_time, lines_from, lines_of, mom
 use Rattle.pcap_form.specs.Ahead.{Ahead, Gains}
 use Rattle.pcap_form.specs.Reading.{IsThere}
 use Rattle.pc_outside.specs.WhereTold.{WhereTold}
-use Rattle.pcap_form.specs.Progress.{Begins, Cuts, Ends, HasRead, Progress, Reached, Takes}
+use Rattle.pcap_form.specs.Progress.{Begins, Cuts, Ends, HasRead, IsSent, Progress, Reached, Takes}
 use Rattle.pcap_form.specs.declared.importing.Stopped.{Stopped}
-use Rattle.pcap_form.specs.declared.importing.UnwrittenTrace.{UnwrittenTrace}
-use Rattle.pcap_form.specs.declared.importing.UnwrittenTrace.TheVariants as unwritten
+use Rattle.pc_outside.specs.declared.writing.Unwritten.{Unwritten}
+use Rattle.pc_outside.specs.declared.writing.Unwritten.TheVariants as unwritten
 use Rattle.pcap_form.proofs.ToldLemmas.{told_gains, told_left, told_passed, told_start}
 use Rattle.pcap_form.proofs.ReadLemmas.{read_header, read_more}
 use Rattle.pcap_form.proofs.StopLemmas.{begins}
@@ -152,6 +152,15 @@ progress_now start ahead old mid new head first least room text now done closed 
       lines = lines;
     }
 
+-- what waited is written with a record's line
+pub all_sent : (answer : Result (Unit {0}) Unwritten) (old new : Option (List ℕ)) (text waited now : List ℕ)
+    → waited ≡ text → OnOk answer (Appends old new waited) → OnOk answer (now ≡ [])
+    → OnOk answer (Takes old new text now)
+all_sent (Ok done) old new text waited now is written emptied =
+    let sent : IsSent old new text now = record { written = subst (Appends old new) is written; emptied = emptied } in
+    inr sent
+all_sent (Err why) old new text waited now is written emptied = tt
+
 -- A record was taken: its line waits, or all that waited is written.
 pub goes_on : (start left old mid new : Option (List ℕ)) (head : CaptureHead) (first : Option ℕ) (least room after : ℕ)
     (waiting text now : List ℕ)
@@ -248,7 +257,7 @@ ends_early stop start left sink waiting empty reached = record {
 }
 
 -- A record's line couldn't be written, or found no memory.
-pub cut_at : (why : UnwrittenTrace) (start left old mid new : Option (List ℕ)) (head : CaptureHead) (first : Option ℕ)
+pub cut_at : (why : Unwritten) (start left old mid new : Option (List ℕ)) (head : CaptureHead) (first : Option ℕ)
     (least room after : ℕ) (waiting text : List ℕ)
     (done : List Record) (one : RecordHead) (held : List ℕ)
     → IsThere one head held → after + (record_len + one.captured) ≡ room

@@ -9,8 +9,8 @@ use Rattle.pcap_form.specs.Capture.{stop_of}
 use Rattle.pcap_form.specs.Trace.{first_time, lines_from, lines_of, trace_of}
 use Rattle.pcap_form.specs.declared.importing.Stopped.{Stopped}
 use Rattle.pcap_form.specs.declared.importing.Stopped.TheVariants as stopped
-use Rattle.pcap_form.specs.declared.importing.UnwrittenTrace.{UnwrittenTrace}
-use Rattle.pcap_form.specs.declared.importing.UnwrittenTrace.TheVariants as unwritten
+use Rattle.pc_outside.specs.declared.writing.Unwritten.{Unwritten}
+use Rattle.pc_outside.specs.declared.writing.Unwritten.TheVariants as unwritten
 use Rattle.pcap_form.specs.declared.importing.Imported.{Imported}
 use Rattle.pcap_form.specs.declared.importing.Imported.TheVariants as imported
 use Rattle.pc_outside.specs.WhereTold.{WhereTold}
@@ -79,12 +79,12 @@ abbrev pub Takes : Option (List ℕ) → Option (List ℕ) → List ℕ → List
 Takes old new text waiting = Stays old new text waiting ⊎ IsSent old new text waiting
 
 -- what was written of the trace of these records where it is cut: a prefix of it, or that of some first ones
-abbrev pub CutAt : UnwrittenTrace → List Record → List ℕ → Type 0
+abbrev pub CutAt : Unwritten → List Record → List ℕ → Type 0
 CutAt unwritten.WriteFault done text = (more : List ℕ) × (trace_of done ≡ text ++ more)
 CutAt unwritten.NoMemory done text =
     (closed : List Record) × (open_ : List Record) × (done ≡ closed ++ open_) × (text ≡ trace_of closed)
 
-pub record Cuts (why : UnwrittenTrace) (start left old new : Option (List ℕ)) : Type 0 where
+pub record Cuts (why : Unwritten) (start left old new : Option (List ℕ)) : Type 0 where
   pub done : List Record
   pub reached : WhereTold start left (λ octets rest. Begins octets done)
   pub text : List ℕ
@@ -97,6 +97,6 @@ imported_at stopped.ReadFault = imported.ReadFault
 imported_at stopped.TooLong = imported.TooLong
 imported_at stopped.BadCapture = imported.BadCapture
 
-abbrev pub imported_without : UnwrittenTrace → Imported
+abbrev pub imported_without : Unwritten → Imported
 imported_without unwritten.WriteFault = imported.WriteFault
 imported_without unwritten.NoMemory = imported.NoMemory

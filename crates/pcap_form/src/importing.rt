@@ -8,7 +8,7 @@ ghost use Rattle.pcap_form.specs.Lent.{said_by};
 ghost use Rattle.pcap_form.specs.Record.{record_in};
 ghost use Rattle.pcap_form.specs.Trace.{stamped, text_of};
 ghost use Rattle.pcap_form.specs.Reading.{IsThere};
-ghost use Rattle.pcap_form.specs.Progress.{Cuts, Ends, IsSent, Takes, imported_at, imported_without};
+ghost use Rattle.pcap_form.specs.Progress.{Cuts, Ends, Takes, imported_at, imported_without};
 ghost use Rattle.pcap_form.specs.Report.{Runs};
 
 use crate::block::{Block, Fill};
@@ -19,7 +19,7 @@ use crate::record::{RECORD_LEN, RecordHead, moment_of};
 use crate::record_line::lent_kind;
 use crate::text::push_line;
 use pc_base::Moment;
-use pc_outside::{Sink, Source, write_whole};
+use pc_outside::{Sink, Source, Unwritten, write_text};
 use std::alloc::{AllocError, Global};
 use text_fields::Text;
 
@@ -40,26 +40,8 @@ pub enum Imported {
     BadCapture,
 }
 
-/// Why a trace can't go on.
-#[derive(Clone, Copy)]
-enum UnwrittenTrace {
-    WriteFault,
-    NoMemory,
-}
-
 // How many octets of the trace are gathered before they are written.
 const PIECE_LEN: usize = 0x1_0000;
-
-impl From<AllocError> for UnwrittenTrace {
-    ghost use Rattle.std.specs.Prelude.{◌≡◌};
-    ghost use Rattle.pcap_form.specs.declared.importing.UnwrittenTrace.TheVariants.{NoMemory};
-
-    ghost from_gives = { λ _ why. why ≡ NoMemory };
-
-    fn from(_error: AllocError) -> UnwrittenTrace {
-        UnwrittenTrace::NoMemory
-    }
-}
 
 // Why no more records are read.
 #[derive(Clone, Copy)]
@@ -68,22 +50,6 @@ enum Stopped {
     ReadFault,
     TooLong,
     BadCapture,
-}
-
-// Writes what waits of the trace, and empties it.
-fn write_out<K: Sink>(sink: &mut K, out: &mut Text) -> Result<(), UnwrittenTrace>
-    ensures sent { OnOk result (IsSent (K.written sink.old) (K.written sink.new) out.old out.new) }
-    ensures cut { OnErr result (AppendsPrefix (K.written sink.old) (K.written sink.new) out.old) }
-    ensures no_other { OnErr result (result ≡ Err UnwrittenTrace.WriteFault) }
-
-    ensures later { K.faults sink.old ≤ K.faults sink.new }
-    ensures fault { OnErr result (Rises (K.faults sink.old) (K.faults sink.new)) }
-{
-    if write_whole(sink, out.as_slice()).is_err() {
-        return Err(UnwrittenTrace::WriteFault);
-    }
-    out.clear();
-    Ok(())
 }
 
 // Appends the line of a record that is held, at this moment, to what waits. A piece that is long
@@ -95,23 +61,23 @@ fn take_record<K: Sink>(
     moment: Moment,
     sink: &mut K,
     out: &mut Text,
-) -> Result<(), UnwrittenTrace>
+) -> Result<(), Unwritten>
     requires { IsThere one head.now held.now }
 
     ensures taken { OnOk result (Takes (K.written sink.old) (K.written sink.new)
         (out.old ++ text_of (stamped moment (record_in head.now held.now).said)) out.new) }
-    ensures cut { result ≡ Err UnwrittenTrace.WriteFault → AppendsPrefix (K.written sink.old) (K.written sink.new)
+    ensures cut { result ≡ Err Unwritten.WriteFault → AppendsPrefix (K.written sink.old) (K.written sink.new)
         (out.old ++ text_of (stamped moment (record_in head.now held.now).said)) }
-    ensures kept { result ≡ Err UnwrittenTrace.NoMemory → sink.new ≡ sink.old }
+    ensures kept { result ≡ Err Unwritten.NoMemory → sink.new ≡ sink.old }
 
     ensures later { K.faults sink.old ≤ K.faults sink.new }
-    ensures fault { result ≡ Err UnwrittenTrace.WriteFault → Rises (K.faults sink.old) (K.faults sink.new) }
+    ensures fault { result ≡ Err Unwritten.WriteFault → Rises (K.faults sink.old) (K.faults sink.new) }
 {
     push_lent(out, moment, said_in(head, one, held))?;
     if out.as_slice().len() < PIECE_LEN {
         return Ok(());
     }
-    write_out(sink, out)
+    write_text(sink, out)
 }
 
 // What the record that is held says.
@@ -150,7 +116,7 @@ fn import_records<S: Source, K: Sink>(
     sink: &mut K,
     block: &mut Block,
     out: &mut Text,
-) -> Result<Stopped, UnwrittenTrace>
+) -> Result<Stopped, Unwritten>
     requires fresh { block.old ≡ record { held = []; room = 2 ^ 40 } }
     requires empty { out.old ≡ [] }
 
@@ -162,7 +128,7 @@ fn import_records<S: Source, K: Sink>(
     ensures source_later { S.faults source.old ≤ S.faults source.new }
     ensures sink_later { K.faults sink.old ≤ K.faults sink.new }
     ensures read_fault { result ≡ Ok Stopped.ReadFault → Rises (S.faults source.old) (S.faults source.new) }
-    ensures write_fault { result ≡ Err UnwrittenTrace.WriteFault → Rises (K.faults sink.old) (K.faults sink.new) }
+    ensures write_fault { result ≡ Err Unwritten.WriteFault → Rises (K.faults sink.old) (K.faults sink.new) }
 {
     match block.fill(source, HEAD_LEN) {
         Fill::Enough => {}
@@ -213,12 +179,12 @@ fn imported_at(stop: Stopped) -> Imported
     }
 }
 
-fn imported_without(why: UnwrittenTrace) -> Imported
+fn imported_without(why: Unwritten) -> Imported
     ensures { result ≡ imported_without why }
 {
     match why {
-        UnwrittenTrace::WriteFault => Imported::WriteFault,
-        UnwrittenTrace::NoMemory => Imported::NoMemory,
+        Unwritten::WriteFault => Imported::WriteFault,
+        Unwritten::NoMemory => Imported::NoMemory,
     }
 }
 
@@ -231,7 +197,7 @@ fn end_import<K: Sink>(stop: Stopped, sink: &mut K, out: &mut Text) -> Imported
     ensures later { K.faults sink.old ≤ K.faults sink.new }
     ensures write_fault { result ≡ Imported.WriteFault → Rises (K.faults sink.old) (K.faults sink.new) }
 {
-    match write_out(sink, out) {
+    match write_text(sink, out) {
         Ok(()) => imported_at(stop),
         Err(why) => imported_without(why),
     }

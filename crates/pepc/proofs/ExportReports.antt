@@ -8,8 +8,8 @@ use Rattle.trace_lines.specs.Line.{Line}
 use Rattle.pcap_form.specs.Export.{export_of, header, record_of}
 use Rattle.trace_run.specs.declared.ending.Ending.{Ending}
 use Rattle.trace_run.specs.declared.ending.Ending.TheVariants.{Ended, ReadFault, BadLine, LineLong, TooLong}
-use Rattle.trace_run.specs.declared.ending.Unwritten.{Unwritten}
-use Rattle.trace_run.specs.declared.ending.Unwritten.TheVariants as unwritten
+use Rattle.pc_outside.specs.declared.writing.Unwritten.{Unwritten}
+use Rattle.pc_outside.specs.declared.writing.Unwritten.TheVariants as unwritten
 use Rattle.trace_run.specs.declared.status.Status.{Status}
 use Rattle.trace_run.specs.declared.status.Status.TheVariants as status
 use Rattle.pepc.specs.Export.{ExportReports, Exports, IsCutExport, IsFirstExport, input_export}

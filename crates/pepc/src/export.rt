@@ -1,17 +1,15 @@
 //! The command `export`: the capture of the lines that are kept.
-ghost use Rattle.std.specs.Prelude.{◌≡◌, ◌≤◌, [], Err, OnOk, OnErr, IfOk};
-ghost use Rattle.std.specs.Io.KnownBytes.{Appends};
+ghost use Rattle.std.specs.Prelude.{◌≡◌, ◌≤◌, IfOk};
 ghost use Rattle.pc_outside.specs.Faults.{Rises};
-ghost use Rattle.pc_outside.specs.Prefixes.{AppendsPrefix};
 ghost use Rattle.pcap_form.specs.Export.{header};
 ghost use Rattle.pepc.specs.Export.{Exports};
 
-use pc_outside::{Sink, Source};
+use pc_outside::{Sink, Source, Unwritten, write_text};
 use pcap_form::{HEADER, push_record};
 use std::alloc::{AllocError, Global};
 use text_fields::Text;
 use trace_lines::TraceLine;
-use trace_run::{LineTaker, Status, Unwritten, run_lines, status_at, status_without, write_octets};
+use trace_run::{LineTaker, Status, run_lines, status_at, status_without};
 
 // How many octets of a capture are gathered before they are written.
 const PIECE_LEN: usize = 0x1_0000;
@@ -30,21 +28,6 @@ impl Capture {
         let mut waiting = Text::new(alloc);
         waiting.extend_from_slice(&HEADER)?;
         Ok(Capture { waiting })
-    }
-
-    // Writes what waits, and empties it.
-    fn write<K: Sink>(&mut self, sink: &mut K) -> Result<(), Unwritten>
-        ensures moved { OnOk result (Appends (K.written sink.old) (K.written sink.new) self.old.waiting) }
-        ensures emptied { OnOk result (self.new.waiting ≡ []) }
-        ensures cut { OnErr result (AppendsPrefix (K.written sink.old) (K.written sink.new) self.old.waiting) }
-        ensures no_other { OnErr result (result ≡ Err Unwritten.WriteFault) }
-
-        ensures later { K.faults sink.old ≤ K.faults sink.new }
-        ensures fault { OnErr result (Rises (K.faults sink.old) (K.faults sink.new)) }
-    {
-        write_octets(sink, self.waiting.as_slice())?;
-        self.waiting.clear();
-        Ok(())
     }
 }
 
@@ -68,7 +51,7 @@ impl LineTaker for Capture {
         if self.waiting.as_slice().len() < PIECE_LEN {
             return Ok(());
         }
-        self.write(sink)
+        write_text(sink, &mut self.waiting)
     }
 }
 
@@ -92,7 +75,7 @@ pub fn export<S: Source, K: Sink>(alloc: Global, source: &mut S, sink: &mut K) -
         Ok((ending, _lines)) => ending,
         Err(why) => return status_without(why),
     };
-    match capture.write(sink) {
+    match write_text(sink, &mut capture.waiting) {
         Ok(()) => status_at(ending),
         Err(why) => status_without(why),
     }

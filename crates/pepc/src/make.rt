@@ -4,10 +4,9 @@ ghost use Rattle.pc_outside.specs.Faults.{Rises};
 ghost use Rattle.pepc.specs.Make.{Makes};
 
 use crate::summary::counted;
-use pc_outside::{Sink, WriteFault, write_whole};
+use pc_outside::{Sink, Unwritten, WriteFault, write_whole};
 use report_lines::push_summary;
 use std::alloc::{AllocError, Global};
-use trace_maker::MakeNo;
 use trace_run::Status;
 
 /// Writes the trace of this seed, so many subscribers and so many lines to the sink, or the summary of
@@ -52,8 +51,8 @@ fn write_trace<K: Sink>(alloc: Global, seed: u64, subs: u32, lines: u32, sink: &
 {
     match trace_maker::make(alloc, seed, subs, lines, sink) {
         Ok(()) => Status::Ok,
-        Err(MakeNo::WriteFault) => Status::WriteFault,
-        Err(MakeNo::NoMemory) => Status::NoMemory,
+        Err(Unwritten::WriteFault) => Status::WriteFault,
+        Err(Unwritten::NoMemory) => Status::NoMemory,
     }
 }
 

@@ -18,8 +18,8 @@ use Rattle.trace_run.specs.Status.{status_at, status_without}
 use Rattle.trace_run.specs.Takers.{LinesCut}
 use Rattle.trace_run.specs.declared.ending.Ending.{Ending}
 use Rattle.trace_run.specs.declared.ending.Ending.TheVariants.{Ended, ReadFault, BadLine, LineLong, TooLong}
-use Rattle.trace_run.specs.declared.ending.Unwritten.{Unwritten}
-use Rattle.trace_run.specs.declared.ending.Unwritten.TheVariants as unwritten
+use Rattle.pc_outside.specs.declared.writing.Unwritten.{Unwritten}
+use Rattle.pc_outside.specs.declared.writing.Unwritten.TheVariants as unwritten
 use Rattle.trace_run.specs.declared.status.Status.{Status}
 use Rattle.trace_run.specs.declared.status.Status.TheVariants as status
 use Rattle.trace_run.proofs.EndingLemmas.{stop_is}

@@ -5,12 +5,12 @@ ghost use Rattle.trace_run.specs.Takers.{IsNextOf};
 ghost use Rattle.save_command.specs.Left.{HasTaken};
 
 use pc_base::Moment;
-use pc_outside::Sink;
+use pc_outside::{Sink, Unwritten};
 use solo_command::Solo;
 use std::alloc::{AllocError, Global};
 use text_fields::Text;
 use trace_lines::TraceLine;
-use trace_run::{LineTaker, Unwritten};
+use trace_run::LineTaker;
 
 /// The sequential gateway behind some lines, how many they are, the moment of the last one, and the room for what is
 /// told of a line, which isn't kept.

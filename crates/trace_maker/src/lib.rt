@@ -31,4 +31,4 @@ mod said;
 pub use draws::Draws;
 pub use laws::{a_made_trace_is_read, made_lines_stand_in_order};
 pub use maker::{Maker, made_line};
-pub use making::{MakeNo, make};
+pub use making::make;

@@ -15,28 +15,10 @@ use crate::maker::{LinePlan, Maker, line_of};
 use crate::packets::{push_downlink, push_uplink};
 use crate::said::Said;
 use pc_base::NoMemory;
-use pc_outside::{Sink, write_whole};
+use pc_outside::{Sink, Unwritten, write_text};
 use std::alloc::Global;
 use text_fields::Text;
 use trace_lines::{push_message, push_text};
-
-/// Why a trace isn't written whole.
-#[derive(Clone, Copy, Debug, PartialEq, Eq)]
-pub enum MakeNo {
-    WriteFault,
-    NoMemory,
-}
-
-impl From<NoMemory> for MakeNo {
-    ghost use Rattle.std.specs.Prelude.{◌≡◌};
-    ghost use Rattle.trace_maker.specs.declared.making.MakeNo.TheVariants.{NoMemory};
-
-    ghost from_gives = { λ _ why. why ≡ NoMemory };
-
-    fn from(_error: NoMemory) -> MakeNo {
-        MakeNo::NoMemory
-    }
-}
 
 // The text is written when it has so many octets.
 const BLOCK: usize = 65_536;
@@ -48,7 +30,7 @@ pub fn make<K: Sink>(
     subscribers: u32,
     lines: u32,
     sink: &mut K,
-) -> Result<(), MakeNo>
+) -> Result<(), Unwritten>
     requires some { 1 ≤ subscribers }
     requires slots { subscribers ≤ 65533 }
     requires most { lines ≤ 100000 }
@@ -57,14 +39,14 @@ pub fn make<K: Sink>(
         (text_of (made seed subscribers lines))) }
 
     // A fault leaves a prefix of the text; without memory the lines before are whole.
-    ensures cut { result ≡ Err MakeNo.WriteFault
+    ensures cut { result ≡ Err Unwritten.WriteFault
         → AppendsPrefix (K.written sink.old) (K.written sink.new) (text_of (made seed subscribers lines)) }
-    ensures no_memory { result ≡ Err MakeNo.NoMemory
+    ensures no_memory { result ≡ Err Unwritten.NoMemory
         → AppendsLines (K.written sink.old) (K.written sink.new) (made seed subscribers lines) }
 
     // A fault is the sink's.
     ensures later { K.faults sink.old ≤ K.faults sink.new }
-    ensures fault { result ≡ Err MakeNo.WriteFault → Rises (K.faults sink.old) (K.faults sink.new) }
+    ensures fault { result ≡ Err Unwritten.WriteFault → Rises (K.faults sink.old) (K.faults sink.new) }
 {
     let mut maker = Maker::new(seed, subscribers, lines);
     let mut text = Text::new(alloc);
@@ -75,23 +57,6 @@ pub fn make<K: Sink>(
         }
     }
     write_text(sink, &mut text)
-}
-
-// Writes the text, and empties it.
-fn write_text<K: Sink>(sink: &mut K, text: &mut Text) -> Result<(), MakeNo>
-    ensures whole { OnOk result (Appends (K.written sink.old) (K.written sink.new) text.old) }
-    ensures emptied { OnOk result (text.new ≡ []) }
-    ensures cut { OnErr result (AppendsPrefix (K.written sink.old) (K.written sink.new) text.old) }
-    ensures no_other { OnErr result (result ≡ Err MakeNo.WriteFault) }
-
-    ensures later { K.faults sink.old ≤ K.faults sink.new }
-    ensures fault { OnErr result (Rises (K.faults sink.old) (K.faults sink.new)) }
-{
-    if write_whole(sink, text.as_slice()).is_err() {
-        return Err(MakeNo::WriteFault);
-    }
-    text.clear();
-    Ok(())
 }
 
 // Appends the next line; whether there was one. The octets are used again for each packet.

@@ -10,8 +10,8 @@ use Rattle.lawful_run.specs.Report.{Report}
 use Rattle.lawful_run.proofs.CutLines.{cut_open, cut_whole, short_open}
 use Rattle.trace_run.specs.declared.ending.Ending.{Ending}
 use Rattle.trace_run.specs.declared.ending.Ending.TheVariants.{ReadFault}
-use Rattle.trace_run.specs.declared.ending.Unwritten.{Unwritten}
-use Rattle.trace_run.specs.declared.ending.Unwritten.TheVariants as unwritten
+use Rattle.pc_outside.specs.declared.writing.Unwritten.{Unwritten}
+use Rattle.pc_outside.specs.declared.writing.Unwritten.TheVariants as unwritten
 use Rattle.trace_run.specs.declared.epoch.Size.{Size}
 use Rattle.trace_run.specs.declared.status.Status.TheVariants as status
 use Rattle.trace_run.specs.Cut.{Counts}

@@ -8,8 +8,8 @@ use Rattle.lawful_run.specs.Report.{Report}
 use Rattle.trace_lines.specs.Line.{Line}
 use Rattle.trace_run.specs.declared.ending.Ending.{Ending}
 use Rattle.trace_run.specs.declared.ending.Ending.TheVariants.{Ended}
-use Rattle.trace_run.specs.declared.ending.Unwritten.{Unwritten}
-use Rattle.trace_run.specs.declared.ending.Unwritten.TheVariants as unwritten
+use Rattle.pc_outside.specs.declared.writing.Unwritten.{Unwritten}
+use Rattle.pc_outside.specs.declared.writing.Unwritten.TheVariants as unwritten
 use Rattle.trace_run.specs.Coming.{Next}
 use Rattle.trace_run.specs.Coming as next
 use Rattle.trace_run.specs.Beginnings.{Beginning, behind, input_from, whole_input}

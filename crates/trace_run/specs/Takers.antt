@@ -2,8 +2,8 @@
 use Rattle.std.specs.Prelude.{◌≡◌, ℕ, ◌+◌, ◌<◌, ◌≤◌, ◌^◌, List, length, Option}
 use Rattle.trace_lines.specs.Line.{Line}
 use Rattle.trace_run.specs.declared.ending.Ending.{Ending}
-use Rattle.trace_run.specs.declared.ending.Unwritten.{Unwritten}
-use Rattle.trace_run.specs.declared.ending.Unwritten.TheVariants as unwritten
+use Rattle.pc_outside.specs.declared.writing.Unwritten.{Unwritten}
+use Rattle.pc_outside.specs.declared.writing.Unwritten.TheVariants as unwritten
 use Rattle.trace_run.specs.Beginnings.{Beginning, whole_input}
 use Rattle.trace_run.specs.Lines.{BeginsFrom, HasRead, ReachedFrom}
 use Rattle.pc_outside.specs.WhereTold.{WhereTold}

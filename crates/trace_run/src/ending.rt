@@ -1,5 +1,5 @@
 //! How reading a trace and writing its report end.
-ghost use Rattle.std.specs.Prelude.{◌≡◌, ◌≤◌, [], Err, OnOk, OnErr};
+ghost use Rattle.std.specs.Prelude.{◌≡◌, ◌≤◌, Err, OnOk, OnErr};
 ghost use Rattle.std.specs.Io.KnownBytes.{Appends};
 ghost use Rattle.pc_outside.specs.Faults.{Rises};
 ghost use Rattle.pc_outside.specs.Prefixes.{AppendsPrefix};
@@ -7,9 +7,7 @@ ghost use Rattle.trace_run.specs.Noted.{bad_at};
 ghost use Rattle.trace_run.specs.Status.{status_at, status_without};
 
 use crate::status::Status;
-use pc_outside::{Sink, write_whole};
-use std::alloc::AllocError;
-use text_fields::Text;
+use pc_outside::{Sink, Unwritten, write_whole};
 use trace_lines::LineBad;
 
 /// Why no more lines are read.
@@ -27,26 +25,6 @@ pub enum Ending {
     TooLong,
 }
 
-/// Why a report can't go on.
-#[derive(Clone, Copy)]
-pub enum Unwritten {
-    /// The sink failed.
-    WriteFault,
-    /// Memory ran out.
-    NoMemory,
-}
-
-impl From<AllocError> for Unwritten {
-    ghost use Rattle.std.specs.Prelude.{◌≡◌};
-    ghost use Rattle.trace_run.specs.declared.ending.Unwritten.TheVariants.{NoMemory};
-
-    ghost from_gives = { λ _ why. why ≡ NoMemory };
-
-    fn from(_error: AllocError) -> Unwritten {
-        Unwritten::NoMemory
-    }
-}
-
 /// Writes these octets.
 pub fn write_octets<K: Sink>(sink: &mut K, octets: &[u8]) -> Result<(), Unwritten>
     ensures moved { OnOk result (Appends (K.written sink.old) (K.written sink.new) octets.now) }
@@ -59,21 +37,6 @@ pub fn write_octets<K: Sink>(sink: &mut K, octets: &[u8]) -> Result<(), Unwritte
     if write_whole(sink, octets).is_err() {
         return Err(Unwritten::WriteFault);
     }
-    Ok(())
-}
-
-/// Writes what is there of the report, and empties it.
-pub fn write_report<K: Sink>(sink: &mut K, report: &mut Text) -> Result<(), Unwritten>
-    ensures moved { OnOk result (Appends (K.written sink.old) (K.written sink.new) report.old) }
-    ensures emptied { OnOk result (report.new ≡ []) }
-    ensures cut { OnErr result (AppendsPrefix (K.written sink.old) (K.written sink.new) report.old) }
-    ensures no_other { OnErr result (result ≡ Err Unwritten.WriteFault) }
-
-    ensures later { K.faults sink.old ≤ K.faults sink.new }
-    ensures fault { OnErr result (Rises (K.faults sink.old) (K.faults sink.new)) }
-{
-    write_octets(sink, report.as_slice())?;
-    report.clear();
     Ok(())
 }
 

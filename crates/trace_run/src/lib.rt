@@ -12,9 +12,7 @@ mod reporting;
 mod status;
 mod taking;
 
-pub use ending::{
-    Ending, Unwritten, bad_at, status_at, status_without, write_octets, write_report,
-};
+pub use ending::{Ending, bad_at, status_at, status_without, write_octets};
 pub use entries::{
     end_line, push_answer, push_bad, push_closing, push_effects, push_note, push_noted,
     push_packet, push_placed, push_records, push_refusal,

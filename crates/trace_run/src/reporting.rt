@@ -14,13 +14,13 @@ ghost use Rattle.trace_run.specs.Beginnings.{behind};
 ghost use Rattle.trace_run.specs.Reporting.{AnsweredFrom, IsDueFrom, SaysEpochs, Standing, StandingFrom};
 ghost use Rattle.trace_run.specs.Takers.{IsNextFrom};
 
-use crate::ending::{Ending, Unwritten, status_at, status_without, write_report};
+use crate::ending::{Ending, status_at, status_without};
 use crate::epoch::Size;
 use crate::reading::LineReader;
 use crate::status::Status;
 use crate::taking::{LineTaker, run_lines_behind};
 use pc_base::Moment;
-use pc_outside::{LineBuf, Sink, Source};
+use pc_outside::{LineBuf, Sink, Source, Unwritten, write_text};
 use std::alloc::{AllocError, Global};
 use text_fields::Text;
 use trace_lines::TraceLine;
@@ -192,7 +192,7 @@ impl<R: Reporter> LineTaker for Epochs<R> {
         if !self.answer(line, len)? {
             return Ok(());
         }
-        write_report(sink, &mut self.text)
+        write_text(sink, &mut self.text)
     }
 }
 
@@ -302,7 +302,7 @@ pub fn run_report_behind<L: LineReader, S: Source, K: Sink, R: Reporter>(
         Ok(()) => {}
         Err(AllocError) => return Status::NoMemory,
     }
-    match write_report(sink, &mut epochs.text) {
+    match write_text(sink, &mut epochs.text) {
         Ok(()) => status_at(ending),
         Err(why) => status_without(why),
     }

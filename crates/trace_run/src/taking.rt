@@ -9,10 +9,10 @@ ghost use Rattle.trace_lines.specs.Text.{line_text};
 ghost use Rattle.trace_run.specs.Beginnings.{behind};
 ghost use Rattle.trace_run.specs.Takers.{IsNextFrom, LinesCut, LinesCutFrom, LinesEnd, LinesEndFrom};
 
-use crate::ending::{Ending, Unwritten};
+use crate::ending::Ending;
 use crate::reading::{LineReader, Next};
 use pc_base::Moment;
-use pc_outside::{LineBuf, Sink, Source};
+use pc_outside::{LineBuf, Sink, Source, Unwritten};
 use std::alloc::Global;
 use trace_lines::TraceLine;
 

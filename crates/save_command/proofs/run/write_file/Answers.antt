@@ -1,7 +1,7 @@
 use Rattle.std.proofs.Common.{◌≡◌, subst}
 use Rattle.std.specs.Io.KnownBytes.{Appends}
 use Rattle.pc_outside.specs.Prefixes.{AppendsPrefix}
-use Rattle.trace_run.specs.declared.ending.Unwritten.TheVariants.{WriteFault}
+use Rattle.pc_outside.specs.declared.writing.Unwritten.TheVariants.{WriteFault}
 use Rattle.save_command.proofs.SaveLemmas.{wrote_all, wrote_prefix}
 use Rattle.save_command.proofs.run.write_file.Goals as goal
 

@@ -1,6 +1,6 @@
 use Rattle.std.proofs.Common.{◌≡◌}
 use Rattle.trace_run.specs.Beginnings.{whole_input}
-use Rattle.trace_run.specs.declared.ending.Unwritten.TheVariants as unwritten
+use Rattle.pc_outside.specs.declared.writing.Unwritten.TheVariants as unwritten
 use Rattle.trace_run.proofs.TakeLemmas.{cut_first, if_err}
 use Rattle.trace_run.proofs.taking.run_lines.Goals as goal
 

@@ -2,7 +2,7 @@ use Rattle.std.proofs.Common.{◌≡◌, ◌≤◌, ◌∷◌, ◌++◌, [], Err
 use Rattle.trace_lines.specs.Line.{Line}
 use Rattle.trace_run.specs.Coming as next
 use Rattle.trace_run.specs.declared.ending.Ending.TheVariants.{Ended, ReadFault}
-use Rattle.trace_run.specs.declared.ending.Unwritten.TheVariants as unwritten
+use Rattle.pc_outside.specs.declared.writing.Unwritten.TheVariants as unwritten
 use Rattle.trace_run.specs.Takers.{IsNextFrom}
 use Rattle.trace_run.proofs.EndingLemmas.{reached_end, reached_fault}
 use Rattle.trace_run.proofs.ReadLemmas.{gives_last, gives_line}

@@ -10,14 +10,14 @@ returns-then-as_slice-lt-PIECE_LEN-clause-taken g c = λ first done latest old c
 
 pub returns-clause-taken : goal.returns-clause-taken
 returns-clause-taken g c = λ first done latest old captures due.
-    on_ok_both c.write.result
+    on_ok_both c.write_text.result
     (sends _ _ (done ++ c.args.line.now ∷ []) old _ _
     (stays c.args.self.now.waiting _ done c.args.line.now old _ captures c.in_ok-push_record.ensures.appended))
-    c.write.ensures.moved c.write.ensures.emptied
+    c.write_text.ensures.whole c.write_text.ensures.emptied
 
 pub returns-clause-broken : goal.returns-clause-broken
 returns-clause-broken g c = λ first done latest old captures due failed.
     breaks_off _ (done ++ c.args.line.now ∷ []) old _ _
     (stays c.args.self.now.waiting _ done c.args.line.now old _ captures c.in_ok-push_record.ensures.appended)
-    (subst (λ r. OnErr r (AppendsPrefix (g.K.Sink.written c.args.sink.now) (g.K.Sink.written c.write.new.sink)
-    c.push_record.new.out)) failed c.write.ensures.cut)
+    (subst (λ r. OnErr r (AppendsPrefix (g.K.Sink.written c.args.sink.now) (g.K.Sink.written c.write_text.new.sink)
+    c.push_record.new.out)) failed c.write_text.ensures.cut)

@@ -13,12 +13,12 @@ pub returns-clause-taken : goal.returns-clause-taken
 returns-clause-taken g c = λ first done latest old has due.
     let standing = answered_whole _ c.in_ok-answer.field-0 _ _ _ _ _ _ _ c.if-not-branch.false
     (c.in_ok-answer.ensures first.reporter done latest has.sent has.standing due) in
-    written_more _ c.write_report.result _ _ _ _ _ c.write_report.new.report _ has.sent old _ _ has.written standing
-    c.write_report.ensures.moved c.write_report.ensures.emptied
+    written_more _ c.write_text.result _ _ _ _ _ c.write_text.new.text _ has.sent old _ _ has.written standing
+    c.write_text.ensures.whole c.write_text.ensures.emptied
 
 pub returns-clause-broken : goal.returns-clause-broken
 returns-clause-broken g c = λ first done latest old has due failed.
     let standing = answered_whole _ c.in_ok-answer.field-0 _ _ _ _ _ _ _ c.if-not-branch.false
     (c.in_ok-answer.ensures first.reporter done latest has.sent has.standing due) in
-    breaks_off _ c.write_report.result _ _ _ _ _ _ has.sent old _ _ has.written standing failed
-    c.write_report.ensures.cut
+    breaks_off _ c.write_text.result _ _ _ _ _ _ has.sent old _ _ has.written standing failed
+    c.write_text.ensures.cut
