@@ -5,40 +5,12 @@ ghost use Rattle.text_fields.specs.Number.{number_in};
 ghost use Rattle.command_words.specs.declared.turns.AskedTurns.TheVariants as asked;
 ghost use Rattle.command_words.specs.Turns.{comma, drawn, most_turns, numbers_in, turns_in};
 
+use pc_base::Items;
 use std::alloc::{AllocError, Global};
-use std::marker::Model;
 use text_fields::{next_piece, read_number};
 
-/// Numbers of workers in the order of their turns; contracts see them as a list.
-#[derive(Drop)]
-pub struct TurnList {
-    turns: Vec<u32>,
-}
-
-impl Model for TurnList {
-    ghost use Rattle.std.specs.Prelude.{ℕ, List};
-
-    ghost Value = { List ℕ };
-
-    ghost view = { λ list. list.turns.items };
-}
-
-impl TurnList {
-    /// The list of these numbers. It takes no memory.
-    pub fn of(turns: Vec<u32>) -> TurnList
-        ensures { result ≡ turns.items }
-    {
-        TurnList { turns }
-    }
-
-    /// The numbers, in their order.
-    pub fn into_vec(self) -> Vec<u32>
-        ensures { result.items ≡ self }
-    {
-        let TurnList { turns } = self;
-        turns
-    }
-}
+/// Numbers of workers in the order of their turns. Seen as their list.
+pub type TurnList = Items<u32>;
 
 /// Which turns stand behind each line. A worker's number is below twice the number of slices.
 #[derive(Drop)]
@@ -74,7 +46,7 @@ fn numbers_in(alloc: Global, text: &[u8], last: u64) -> Result<Option<TurnList>,
         turns.push(turn)?;
         left = behind;
     }
-    Ok(Some(TurnList::of(turns)))
+    Ok(Some(Items::of(turns)))
 }
 
 // Whether there are at most as many pieces between commas as there may be turns.

@@ -9,7 +9,7 @@ use crate::NoMemory;
 use crate::memory::Memory;
 use bearer_state::{ActiveBearer, Version};
 use packet_steps::{Effects, HeldPacket, bearer_of, gpdu, markers, marks};
-use pc_base::{Effect, Fate, Peer};
+use pc_base::{Effect, Fate, Items, Peer};
 
 impl Memory {
     ghost use Rattle.std.specs.Prelude.{Some};
@@ -25,7 +25,7 @@ impl Memory {
         let mut effects = markers(alloc, before, after)?;
         let rows = self.take_held();
         self.release_all(after, &rows, &mut effects)?;
-        Ok(Effects::of(effects))
+        Ok(Items::of(effects))
     }
 
     /// The packets that were held, in the order of holding.

@@ -10,7 +10,7 @@ use crate::counters::Counters;
 use crate::releasing::{Release, look_at_all, waits};
 use crate::{Effects, HeldPacket, NoMemory};
 use bearer_state::{ActiveBearer, Version};
-use pc_base::Moment;
+use pc_base::{Items, Moment};
 
 /// Learns the version that comes next, and tells its effects: End Markers to eNodeBs that bearers left,
 /// and what becomes of held packets. Where memory runs out, the counters are as before.
@@ -48,7 +48,7 @@ pub fn advance(
     counters.book.post(&release.postings)?;
     counters.meters = release.meters;
     keep_waiting(&mut counters.held, bearers);
-    Ok(Effects::of(release.effects))
+    Ok(Items::of(release.effects))
 }
 
 /// The moment of the last packet, 0 before the first.
