@@ -2,19 +2,21 @@
 ghost use Rattle.std.specs.Prelude.{◌≡◌, ◌++◌, map, OnOk};
 ghost use Rattle.epoch_drive.specs.Telling.{AreShort, IsShortEntry, line_told};
 ghost use Rattle.report_lines.specs.declared.entry.Entry.TheVariants as entry;
-ghost use Rattle.report_lines.specs.Text.{line_shown};
+ghost use Rattle.report_lines.specs.Text.{entry_text, line_shown};
 ghost use Rattle.trace_run.specs.Entries.{line_of, lines_text};
 
 use epoch_drive::DrivenEntry;
+use report_lines::{push_answer, push_note, push_packet, push_placed, push_refusal};
 use slot_execution::ToldEntry;
 use std::alloc::AllocError;
 use text_fields::Text;
-use trace_run::{push_answer, push_note, push_packet, push_placed, push_refusal};
+use trace_run::end_line;
 
-// Appends the line of an entry, with its place or without.
-fn push_line(report: &mut Text, told: &DrivenEntry<'_>, places: bool) -> Result<(), AllocError>
+// Appends an entry, with its place or without.
+fn push_entry(report: &mut Text, told: &DrivenEntry<'_>, places: bool) -> Result<(), AllocError>
     requires { IsShortEntry told.now }
-    ensures { OnOk result (report.new ≡ report.old ++ line_of (entry.Line (line_shown places (line_told told.now)))) }
+    ensures { OnOk result (report.new
+        ≡ report.old ++ entry_text (entry.Line (line_shown places (line_told told.now)))) }
 {
     match told {
         ToldEntry::Note { line, text } => push_note(report, *line, text),
@@ -43,6 +45,15 @@ fn push_line(report: &mut Text, told: &DrivenEntry<'_>, places: bool) -> Result<
         }
         ToldEntry::Refusal { line, slot, packet } => push_refusal(report, *line, *slot, *packet),
     }
+}
+
+// Appends its line.
+fn push_line(report: &mut Text, told: &DrivenEntry<'_>, places: bool) -> Result<(), AllocError>
+    requires { IsShortEntry told.now }
+    ensures { OnOk result (report.new ≡ report.old ++ line_of (entry.Line (line_shown places (line_told told.now)))) }
+{
+    push_entry(report, told, places)?;
+    end_line(report)
 }
 
 /// Appends the lines of entries, with places or without.

@@ -2,19 +2,20 @@
 ghost use Rattle.std.specs.Prelude.{◌≡◌, ◌++◌, map, OnOk};
 ghost use Rattle.front_core.specs.Filled.{entry_told};
 ghost use Rattle.report_lines.specs.declared.entry.Entry.TheVariants as report_entry;
-ghost use Rattle.report_lines.specs.Text.{line_shown};
+ghost use Rattle.report_lines.specs.Text.{entry_text, line_shown};
 ghost use Rattle.trace_run.specs.Entries.{line_of, lines_text};
 
 use front_core::FrontEntry;
+use report_lines::{push_answer, push_note, push_packet, push_placed, push_refusal};
 use slot_execution::ToldEntry;
 use std::alloc::AllocError;
 use text_fields::Text;
-use trace_run::{push_answer, push_note, push_packet, push_placed, push_refusal};
+use trace_run::end_line;
 
-// Appends the line of an entry, with its place or without.
+// Appends an entry, with its place or without.
 fn push_entry(report: &mut Text, told: &FrontEntry<'_>, places: bool) -> Result<(), AllocError>
-    ensures { OnOk result (report.new ≡ report.old
-        ++ line_of (report_entry.Line (line_shown places (entry_told told.now)))) }
+    ensures { OnOk result (report.new
+        ≡ report.old ++ entry_text (report_entry.Line (line_shown places (entry_told told.now)))) }
 {
     match told {
         ToldEntry::Note { line, text } => push_note(report, *line, text.as_slice()),
@@ -52,6 +53,15 @@ fn push_entry(report: &mut Text, told: &FrontEntry<'_>, places: bool) -> Result<
     }
 }
 
+// Appends its line.
+fn push_line(report: &mut Text, told: &FrontEntry<'_>, places: bool) -> Result<(), AllocError>
+    ensures { OnOk result (report.new ≡ report.old
+        ++ line_of (report_entry.Line (line_shown places (entry_told told.now)))) }
+{
+    push_entry(report, told, places)?;
+    end_line(report)
+}
+
 /// Appends the lines of entries, with places or without.
 pub fn push_entries(
     report: &mut Text,
@@ -61,7 +71,7 @@ pub fn push_entries(
     ensures { OnOk result (report.new ≡ report.old ++ lines_text places (map entry_told entries.now)) }
 {
     for entry in entries {
-        push_entry(report, entry, places)?;
+        push_line(report, entry, places)?;
     }
     Ok(())
 }

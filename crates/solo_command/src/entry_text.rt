@@ -9,10 +9,11 @@ ghost use Rattle.solo_command.specs.Entries.{text_line, judged_by};
 
 use demux::move_word;
 use pc_base::{SliceNo, Slot};
+use report_lines::{push_note, push_packet};
 use std::alloc::AllocError;
 use subscriber::Handled;
 use text_fields::{Head, Text};
-use trace_run::push_packet;
+use trace_run::end_line;
 
 /// Appends the entry of an order that a slot bound for a slice goes to another, or stays.
 pub fn push_move(
@@ -26,7 +27,7 @@ pub fn push_move(
         ++ text_line (entry.Line (line_entry.N
         (record { line = line; note = move_note bound_for slot slice })))) }
 {
-    report_lines::push_note(report, line, move_word(bound_for, slice).as_bytes())?;
+    push_note(report, line, move_word(bound_for, slice).as_bytes())?;
     let mut rest = Head::new();
     rest.put(b'\n');
     rest.put_number(u64::from(slice.0));
@@ -55,5 +56,6 @@ pub fn push_handled(
         handled.number,
         handled.commands,
         &handled.judged,
-    )
+    )?;
+    end_line(report)
 }

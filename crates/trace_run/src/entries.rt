@@ -1,19 +1,16 @@
 //! The lines of a report: an entry's text and a newline, made of lent parts.
-ghost use Rattle.std.specs.Prelude.{◌≡◌, ◌++◌, ◌∷◌, [], None, Bool, codes, false, map, OnOk};
+ghost use Rattle.std.specs.Prelude.{◌≡◌, ◌++◌, ◌∷◌, [], Bool, codes, map, OnOk};
 ghost use Rattle.lawful_run.specs.Outcomes.{effect_entry};
-ghost use Rattle.packet_steps.specs.Lent.{verdict_of};
 ghost use Rattle.report_lines.specs.declared.entry.ChargeEntry.TheVariants.{R};
 ghost use Rattle.report_lines.specs.declared.entry.Entry.TheVariants as entry;
 ghost use Rattle.report_lines.specs.declared.entry.LineEntry.TheVariants as line_entry;
-ghost use Rattle.report_lines.specs.Lent.{IsShort};
 ghost use Rattle.slot_execution.specs.Replaying.{effects_caused, effects_told, rows_closed, rows_told};
 ghost use Rattle.trace_lines.specs.Word.{word_of};
 ghost use Rattle.trace_run.specs.Entries.{charges_text, effects_text, line_of, lines_text};
 ghost use Rattle.trace_run.specs.Noted.{noted};
 
 use charging_book::ChargeRow;
-use packet_steps::LentVerdict;
-use pc_base::{Effect, Place, Reply, Slot};
+use pc_base::{Effect, Reply, Slot};
 use slot_execution::{Caused, Closed};
 use std::alloc::AllocError;
 use text_fields::Text;
@@ -67,72 +64,6 @@ pub fn push_answer(
         (record { line = line; slot = slot; number = number; reply = reply.now })))) }
 {
     report_lines::push_answer(report, line, slot, number, reply)?;
-    end_line(report)
-}
-
-/// Appends the line of a slot's packet of this number, judged behind so many of the slot's commands, without its
-/// place.
-#[inline(always)]
-pub fn push_packet(
-    report: &mut Text,
-    line: u64,
-    slot: Slot,
-    number: u64,
-    commands: u64,
-    verdict: &LentVerdict<'_>,
-) -> Result<(), AllocError>
-    requires { IsShort verdict.now }
-    ensures { OnOk result (report.new ≡ report.old ++ line_of (entry.Line (line_entry.P (record {
-      line = line;
-      slot = slot;
-      number = number;
-      commands = commands;
-      verdict = verdict_of verdict.now;
-      place = None;
-      parked = false;
-    })))) }
-{
-    report_lines::push_packet(report, line, slot, number, commands, verdict)?;
-    end_line(report)
-}
-
-/// Appends the same line with the place where the packet was handled, and whether it was parked.
-pub fn push_placed(
-    report: &mut Text,
-    line: u64,
-    slot: Slot,
-    number: u64,
-    commands: u64,
-    verdict: &LentVerdict<'_>,
-    place: Option<Place>,
-    parked: bool,
-) -> Result<(), AllocError>
-    requires { IsShort verdict.now }
-    ensures { OnOk result (report.new ≡ report.old ++ line_of (entry.Line (line_entry.P (record {
-      line = line;
-      slot = slot;
-      number = number;
-      commands = commands;
-      verdict = verdict_of verdict.now;
-      place = place;
-      parked = parked;
-    })))) }
-{
-    report_lines::push_placed(report, line, slot, number, commands, verdict, place, parked)?;
-    end_line(report)
-}
-
-/// Appends the line of a slot's command or packet that was refused.
-pub fn push_refusal(
-    report: &mut Text,
-    line: u64,
-    slot: Slot,
-    packet: bool,
-) -> Result<(), AllocError>
-    ensures { OnOk result (report.new ≡ report.old
-        ++ line_of (entry.Line (line_entry.F (record { line = line; slot = slot; packet = packet })))) }
-{
-    report_lines::push_refusal(report, line, slot, packet)?;
     end_line(report)
 }
 

@@ -15,7 +15,7 @@ mod taking;
 pub use ending::{Ending, bad_at, status_at, status_without, write_octets};
 pub use entries::{
     end_line, push_answer, push_bad, push_closing, push_effects, push_note, push_noted,
-    push_packet, push_placed, push_records, push_refusal,
+    push_records,
 };
 pub use opens::push_opens;
 pub use reading::{LineReader, Next, given, next_line, refused};
