@@ -1,7 +1,7 @@
 ghost use Rattle.std.specs.Prelude.{◌≡◌};
 ghost use Rattle.gtpv2_msg.specs.declared.fault.CBad.TheVariants.{NoMemory as OutOfMemory};
 
-use std::alloc::{AllocError, AllocFailed};
+use std::alloc::AllocError;
 use thiserror::Error;
 
 /// Why octets are no message, in the order of looking, or that memory ran out.
@@ -38,14 +38,6 @@ impl From<AllocError> for CBad {
     ghost from_gives = { λ _ bad. bad ≡ OutOfMemory };
 
     fn from(_failed: AllocError) -> CBad {
-        CBad::NoMemory
-    }
-}
-
-impl<T: Drop> From<AllocFailed<T>> for CBad {
-    ghost from_gives = { λ _ bad. bad ≡ OutOfMemory };
-
-    fn from(_failed: AllocFailed<T>) -> CBad {
         CBad::NoMemory
     }
 }

@@ -33,6 +33,14 @@ pub enum TBad {
     NoMemory,
 }
 
+impl<T: Drop> From<AllocFailed<T>> for TBad {
+    ghost from_gives = { λ _ e. e ≡ bad.NoMemory };
+
+    fn from(_e: AllocFailed<T>) -> TBad {
+        TBad::NoMemory
+    }
+}
+
 /// Why a `Tft` is not applied to a list of filters.
 #[derive(Clone, Copy, Debug, PartialEq, Eq, Error)]
 pub enum TftNo {
@@ -50,34 +58,10 @@ pub enum TftNo {
     NoMemory,
 }
 
-impl From<AllocError> for TBad {
-    ghost from_gives = { λ _ e. e ≡ bad.NoMemory };
-
-    fn from(_e: AllocError) -> TBad {
-        TBad::NoMemory
-    }
-}
-
-impl<T: Drop> From<AllocFailed<T>> for TBad {
-    ghost from_gives = { λ _ e. e ≡ bad.NoMemory };
-
-    fn from(_e: AllocFailed<T>) -> TBad {
-        TBad::NoMemory
-    }
-}
-
 impl From<AllocError> for TftNo {
     ghost from_gives = { λ _ e. e ≡ no.NoMemory };
 
     fn from(_e: AllocError) -> TftNo {
-        TftNo::NoMemory
-    }
-}
-
-impl<T: Drop> From<AllocFailed<T>> for TftNo {
-    ghost from_gives = { λ _ e. e ≡ no.NoMemory };
-
-    fn from(_e: AllocFailed<T>) -> TftNo {
         TftNo::NoMemory
     }
 }
