@@ -23,8 +23,8 @@ use Rattle.balance_plan.specs.Balance.{balanced}
 use Rattle.balance_plan.specs.Report.{Balances, IsWrittenAs, Reports}
 use Rattle.balance_plan.specs.Said.{HasBadLine, IsBalanced, IsTrace}
 use Rattle.balance_plan.specs.Written.{text_of}
-use Rattle.balance_plan.specs.declared.balancing.Balanced.{Balanced}
-use Rattle.balance_plan.specs.declared.balancing.Balanced.TheVariants as ending_of
+use Rattle.trace_run.specs.declared.status.Status.{Status}
+use Rattle.trace_run.specs.declared.status.Status.TheVariants as ending_of
 
 pub none_of : (found : Option BadAt) → is_some found ≡ false → found ≡ None
 none_of None is = refl
@@ -61,17 +61,17 @@ balanced_heard slices most heard texts text hears good inside is = record {
 }
 
 -- the text was written, or a prefix of it
-pub written_so : (ending : Balanced) (slices most : ℕ) (heard : Heard) (start left old new : Option (List ℕ))
+pub written_so : (ending : Status) (slices most : ℕ) (heard : Heard) (start left old new : Option (List ℕ))
     (texts : List Text) (text : List ℕ) → IsWrittenAs ending old new text → HasHeard heard texts
     → heard.bad ≡ None → heard.outside ≡ false
     → text ≡ text_of (balanced slices most heard.entries.items heard.lines.items)
     → WhereTold start left (λ octets rest. Reached stopped_at.Ended octets rest texts)
     → Balances ending slices most start left old new
-written_so ending_of.Written slices most heard start left old new texts text wrote hears good inside is reached = record {
+written_so ending_of.Ok slices most heard start left old new texts text wrote hears good inside is reached = record {
   text = text;
   written = wrote;
   report = told_map start left (λ octets rest. Reached stopped_at.Ended octets rest texts)
-      (λ octets rest. Reports ending_of.Written slices most octets rest text)
+      (λ octets rest. Reports ending_of.Ok slices most octets rest text)
       (λ octets rest at. (
         at.0,
         subst (λ ts. IsBalanced slices most ts text) (sym at.1)
@@ -94,6 +94,8 @@ written_so ending_of.WriteFault slices most heard start left old new texts text 
             },
           )) reached;
     }
+written_so ending_of.Usage slices most heard start left old new texts text wrote hears good inside is reached =
+    absurd wrote
 written_so ending_of.ReadFault slices most heard start left old new texts text wrote hears good inside is reached =
     absurd wrote
 written_so ending_of.NoMemory slices most heard start left old new texts text wrote hears good inside is reached =
@@ -104,11 +106,17 @@ written_so ending_of.LineLong slices most heard start left old new texts text wr
     absurd wrote
 written_so ending_of.TooLong slices most heard start left old new texts text wrote hears good inside is reached =
     absurd wrote
+written_so ending_of.Refuted slices most heard start left old new texts text wrote hears good inside is reached =
+    absurd wrote
+written_so ending_of.BadCapture slices most heard start left old new texts text wrote hears good inside is reached =
+    absurd wrote
+written_so ending_of.BadState slices most heard start left old new texts text wrote hears good inside is reached =
+    absurd wrote
 written_so ending_of.BadReport slices most heard start left old new texts text wrote hears good inside is reached =
     absurd wrote
 
 -- nothing is written
-nothing_said : (ending : Balanced) (slices most : ℕ) (start left old : Option (List ℕ)) (P : List ℕ → List ℕ → Type 0)
+nothing_said : (ending : Status) (slices most : ℕ) (start left old : Option (List ℕ)) (P : List ℕ → List ℕ → Type 0)
     → ((octets rest : List ℕ) → P octets rest → Reports ending slices most octets rest [])
     → WhereTold start left P → Balances ending slices most start left old old
 nothing_said ending slices most start left old P follows told = record {
@@ -226,10 +234,10 @@ bad_said stop slices most heard at start left old texts hears is =
     (subst HasBadLine (sym read.1) (bad_more texts read.0 (bad_line_heard heard texts at hears is)), refl))
 
 -- a stop behind which nothing is read, unless a line of the trace is refused
-module _ (result : Balanced) (slices most : ℕ) (heard : Heard) (start left old : Option (List ℕ)) (texts : List Text)
+module _ (result : Status) (slices most : ℕ) (heard : Heard) (start left old : Option (List ℕ)) (texts : List Text)
     (hears : HasHeard heard texts)
     (refused : (at : BadAt) → heard.bad ≡ Some at → result ≡ ending_of.BadLine) where
-  abbrev Ends : Balanced → Type 0
+  abbrev Ends : Status → Type 0
   Ends ending = Balances ending slices most start left old old
 
   refused_so : (stop : InputStop) (at : BadAt) → heard.bad ≡ Some at

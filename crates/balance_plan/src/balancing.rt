@@ -20,27 +20,7 @@ use report_lines::Entry;
 use std::alloc::{AllocError, Global};
 use text_fields::Text;
 use trace_lines::TraceLine;
-
-/// How it ended.
-#[derive(Clone, Copy, Debug, PartialEq, Eq)]
-pub enum Balanced {
-    /// The trace was written, with the planned moves.
-    Written,
-    /// The source failed, and no line of the trace that was taken is refused; nothing was written.
-    ReadFault,
-    /// The sink failed; a prefix of the trace was written.
-    WriteFault,
-    /// Memory ran out; nothing was written.
-    NoMemory,
-    /// A line of the trace is refused, whatever comes behind it; nothing was written.
-    BadLine,
-    /// A line has more than 132,000 octets; nothing was written.
-    LineLong,
-    /// The input has 2^40 octets or more; nothing was written.
-    TooLong,
-    /// A line of the report is no entry; nothing was written.
-    BadReport,
-}
+use trace_run::Status;
 
 // The text of the trace with the moves that are planned by the report.
 fn text_with_moves(
@@ -64,47 +44,50 @@ fn text_with_moves(
 }
 
 // Writes the text.
-fn write<K: Sink>(text: &[u8], sink: &mut K) -> Balanced
+fn write<K: Sink>(text: &[u8], sink: &mut K) -> Status
     ensures written { IsWrittenAs result (K.written sink.old) (K.written sink.new) text.now }
+    ensures no_usage { result ≡ Status.Usage → ⊥ }
     ensures later { K.faults sink.old ≤ K.faults sink.new }
-    ensures write_fault { result ≡ Balanced.WriteFault → Rises (K.faults sink.old) (K.faults sink.new) }
+    ensures write_fault { result ≡ Status.WriteFault → Rises (K.faults sink.old) (K.faults sink.new) }
 {
     match write_whole(sink, text) {
-        Ok(()) => Balanced::Written,
-        Err(WriteFault) => Balanced::WriteFault,
+        Ok(()) => Status::Ok,
+        Err(WriteFault) => Status::WriteFault,
     }
 }
 
 // A refused line of the trace goes before what stands behind it.
-fn unless_refused(heard: &Heard, ending: Balanced) -> Balanced
-    ensures refused { (at : BadAt) → heard.now.bad ≡ Some at → result ≡ Balanced.BadLine }
+fn unless_refused(heard: &Heard, ending: Status) -> Status
+    ensures refused { (at : BadAt) → heard.now.bad ≡ Some at → result ≡ Status.BadLine }
     ensures other { heard.now.bad ≡ None → result ≡ ending }
-    ensures read_fault { result ≡ Balanced.ReadFault → ending ≡ Balanced.ReadFault }
-    ensures write_fault { result ≡ Balanced.WriteFault → ending ≡ Balanced.WriteFault }
+    ensures no_usage { result ≡ Status.Usage → ending ≡ Status.Usage }
+    ensures read_fault { result ≡ Status.ReadFault → ending ≡ Status.ReadFault }
+    ensures write_fault { result ≡ Status.WriteFault → ending ≡ Status.WriteFault }
 {
     match heard.bad {
-        Some(_) => Balanced::BadLine,
+        Some(_) => Status::BadLine,
         None => ending,
     }
 }
 
 // Levels what was heard of an input that ended as it should.
-fn level<K: Sink>(alloc: Global, slices: u8, most: u32, heard: &Heard, sink: &mut K) -> Balanced
+fn level<K: Sink>(alloc: Global, slices: u8, most: u32, heard: &Heard, sink: &mut K) -> Status
     requires least { 1 ≤ slices }
     requires most { slices ≤ 64 }
     requires few { vec_len heard.now.lines + 1 < 2 ^ 40 }
     ensures balances { (start left : Option (List ℕ)) (texts : List Text) → HasHeard heard.now texts
         → WhereTold start left (λ octets rest. Reached InputStop.Ended octets rest texts)
         → Balances result slices most start left (K.written sink.old) (K.written sink.new) }
-    ensures read_fault { result ≡ Balanced.ReadFault → ⊥ }
+    ensures no_usage { result ≡ Status.Usage → ⊥ }
+    ensures read_fault { result ≡ Status.ReadFault → ⊥ }
     ensures later { K.faults sink.old ≤ K.faults sink.new }
-    ensures write_fault { result ≡ Balanced.WriteFault → Rises (K.faults sink.old) (K.faults sink.new) }
+    ensures write_fault { result ≡ Status.WriteFault → Rises (K.faults sink.old) (K.faults sink.new) }
 {
     if heard.bad.is_some() {
-        return Balanced::BadLine;
+        return Status::BadLine;
     }
     if heard.outside {
-        return Balanced::BadReport;
+        return Status::BadReport;
     }
     match text_with_moves(
         alloc,
@@ -114,37 +97,39 @@ fn level<K: Sink>(alloc: Global, slices: u8, most: u32, heard: &Heard, sink: &mu
         heard.entries.as_slice(),
     ) {
         Ok(text) => write(text.as_slice(), sink),
-        Err(AllocError) => Balanced::NoMemory,
+        Err(AllocError) => Status::NoMemory,
     }
 }
 
 /// Reads a trace and a report of it from the source, and writes the trace to the sink, with at most so many moves
-/// behind each FENCE that level the slices by the packets which the report tells of the epoch before it.
+/// behind each FENCE that level the slices by the packets which the report tells of the epoch before it. Where it
+/// doesn't end with Ok, nothing was written, or at a fault of the sink a prefix of the trace.
 pub fn balance<S: Source, K: Sink>(
     alloc: Global,
     slices: u8,
     most: u32,
     source: &mut S,
     sink: &mut K,
-) -> Balanced
+) -> Status
     requires least { 1 ≤ slices }
     requires most { slices ≤ 64 }
 
     // What is written is the trace with the planned moves, where source and sink tell their octets.
     ensures balances { Balances result slices most (S.left source.old) (S.left source.new) (K.written sink.old)
         (K.written sink.new) }
+    ensures no_usage { result ≡ Status.Usage → ⊥ }
 
     // Faults are those of the source and the sink.
     ensures source_later { S.faults source.old ≤ S.faults source.new }
     ensures sink_later { K.faults sink.old ≤ K.faults sink.new }
-    ensures read_fault { result ≡ Balanced.ReadFault → Rises (S.faults source.old) (S.faults source.new) }
-    ensures write_fault { result ≡ Balanced.WriteFault → Rises (K.faults sink.old) (K.faults sink.new) }
+    ensures read_fault { result ≡ Status.ReadFault → Rises (S.faults source.old) (S.faults source.new) }
+    ensures write_fault { result ≡ Status.WriteFault → Rises (K.faults sink.old) (K.faults sink.new) }
 {
     match hear(alloc, source) {
         Ok((heard, InputStop::Ended)) => level(alloc, slices, most, &heard, sink),
-        Ok((heard, InputStop::ReadFault)) => unless_refused(&heard, Balanced::ReadFault),
-        Ok((heard, InputStop::LineLong)) => unless_refused(&heard, Balanced::LineLong),
-        Ok((heard, InputStop::TooLong)) => unless_refused(&heard, Balanced::TooLong),
-        Err(AllocError) => Balanced::NoMemory,
+        Ok((heard, InputStop::ReadFault)) => unless_refused(&heard, Status::ReadFault),
+        Ok((heard, InputStop::LineLong)) => unless_refused(&heard, Status::LineLong),
+        Ok((heard, InputStop::TooLong)) => unless_refused(&heard, Status::TooLong),
+        Err(AllocError) => Status::NoMemory,
     }
 }

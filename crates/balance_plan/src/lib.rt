@@ -30,7 +30,7 @@ mod shares;
 mod writing;
 
 pub use balance_laws::{one_balanced_text, planned_moves_apart, plans_level};
-pub use balancing::{Balanced, balance};
+pub use balancing::balance;
 pub use load::{Load, Planned};
 pub use plan_laws::{planned_moves_are_of_loads, steps_level, worked_rows};
 pub use planning::plan;

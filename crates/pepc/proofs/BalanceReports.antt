@@ -3,48 +3,22 @@ use Rattle.std.proofs.Common.{◌≡◌, ℕ, inl, inr, List, [], Option, None, 
 use Rattle.std.proofs.KnownBytes.{Appends-nil}
 use Rattle.audit_core.specs.Said.{HasNoEntry, report_texts}
 use Rattle.pc_outside.specs.Texts.{big, ended, long, texts_of}
-use Rattle.balance_plan.specs.Report.{Reports}
-use Rattle.balance_plan.specs.Report.{Balances as BalancesThere}
+use Rattle.balance_plan.specs.Report.{Balances, Reports}
 use Rattle.balance_plan.specs.Said.{IsTrace}
-use Rattle.balance_plan.specs.declared.balancing.Balanced.{Balanced}
-use Rattle.balance_plan.specs.declared.balancing.Balanced.TheVariants as balanced
-use Rattle.pepc.specs.Balance.{BalanceReports, Balances, status_of}
 use Rattle.trace_lines.specs.Input as trace
 use Rattle.trace_lines.specs.declared.bad.LineBad.{LineBad}
 use Rattle.trace_run.specs.declared.status.Status.{Status}
 use Rattle.trace_run.specs.declared.status.Status.TheVariants as status
 use Rattle.trace_run.specs.Report.{IsDone}
 use Rattle.pc_outside.specs.WhereTold.{WhereTold}
-use Rattle.pc_outside.proofs.ToldLemmas.{told_map}
-
-reports_are : (one : Balanced) (slices most : ℕ) (octets left text : List ℕ)
-    → Reports one slices most octets left text → BalanceReports (status_of one) slices most octets left text
-reports_are balanced.Written slices most octets left text reports = reports
-reports_are balanced.ReadFault slices most octets left text reports = reports
-reports_are balanced.WriteFault slices most octets left text reports = reports
-reports_are balanced.NoMemory slices most octets left text reports = reports
-reports_are balanced.BadLine slices most octets left text reports = reports
-reports_are balanced.LineLong slices most octets left text reports = reports
-reports_are balanced.TooLong slices most octets left text reports = reports
-reports_are balanced.BadReport slices most octets left text reports = reports
-
-pub balances_are : (slices most : ℕ) (one : Balanced) (start left old new : Option (List ℕ))
-    → BalancesThere one slices most start left old new → Balances slices most (status_of one) start left old new
-balances_are slices most one start left old new balances = record {
-  text = balances.text;
-  written = balances.written;
-  report = told_map start left (λ octets rest. Reports one slices most octets rest balances.text)
-      (λ octets rest. BalanceReports (status_of one) slices most octets rest balances.text)
-      (λ octets rest reports. reports_are one slices most octets rest balances.text reports) balances.report;
-}
 
 -- memory ran out before anything was read
 pub nothing_balanced : (slices most : ℕ) (start sink : Option (List ℕ))
-    → Balances slices most status.NoMemory start start sink sink
+    → Balances status.NoMemory slices most start start sink sink
 nothing_balanced slices most start sink = record { text = []; written = Appends-nil sink; report = told start }
   where
     told : (start : Option (List ℕ)) → WhereTold start start
-        (λ octets rest. BalanceReports status.NoMemory slices most octets rest [])
+        (λ octets rest. Reports status.NoMemory slices most octets rest [])
     told None = tt
     told (Some octets) = refl
 
@@ -58,13 +32,13 @@ pub balance_complete : (slices most : ℕ) (ending : Status) (source_failed sink
     → IsTrace (texts_of octets).lines → (HasNoEntry (report_texts (texts_of octets).lines) → ⊥)
     → (source_failed → ⊥) → (sink_failed → ⊥)
     → (ending ≡ status.ReadFault → source_failed) → (ending ≡ status.WriteFault → sink_failed)
-    → Balances slices most ending start left old new → IsDone ending
+    → Balances ending slices most start left old new → IsDone ending
 balance_complete slices most ending source_failed sink_failed octets start left old new is stop good each no_fault no_sink
     read_fault write_fault runs =
     by_left left
-    (subst (λ s. WhereTold s left (λ o l. BalanceReports ending slices most o l runs.text)) is runs.report)
+    (subst (λ s. WhereTold s left (λ o l. Reports ending slices most o l runs.text)) is runs.report)
   where
-    by_status : (s : Status) (l text : List ℕ) → BalanceReports s slices most octets l text
+    by_status : (s : Status) (l text : List ℕ) → Reports s slices most octets l text
         → (s ≡ status.ReadFault → source_failed) → (s ≡ status.WriteFault → sink_failed) → IsDone s
     by_status status.Ok l text reports read write = inl refl
     by_status status.Usage l text reports read write = absurd reports
@@ -81,6 +55,6 @@ balance_complete slices most ending source_failed sink_failed octets start left 
     by_status status.BadReport l text reports read write = absurd (each reports.2)
 
     by_left : (l : Option (List ℕ)) → WhereTold (Some octets) l
-        (λ o rest. BalanceReports ending slices most o rest runs.text) → IsDone ending
+        (λ o rest. Reports ending slices most o rest runs.text) → IsDone ending
     by_left None told = absurd told
     by_left (Some rest) told = by_status ending rest runs.text told read_fault write_fault

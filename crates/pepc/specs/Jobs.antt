@@ -10,12 +10,12 @@ use Rattle.lawful_run.specs.Trace.{IsReport}
 use Rattle.audit_core.specs.Findings.{Finds}
 use Rattle.pc_outside.specs.Texts as texts
 use Rattle.audit_core.specs.Said.{HasNoEntry, report_texts}
+use Rattle.balance_plan.specs.Report.{Balances}
 use Rattle.balance_plan.specs.Said.{IsTrace}
 use Rattle.solo_command.specs.Resumes.{CompletesResume, Resumes}
 use Rattle.save_command.specs.Saves.{Saves}
 use Rattle.pepc.specs.Along.{AreJudged, AuditsAlong}
 use Rattle.pepc.specs.Audit.{Audits, Settles, audit_setup}
-use Rattle.pepc.specs.Balance.{Balances}
 use Rattle.pepc.specs.Drive.{schedule_asked}
 use Rattle.pepc.specs.Export.{Exports}
 use Rattle.pepc.specs.Import.{Imports}
@@ -61,7 +61,7 @@ Does (Some (job.Audit solo slices room lane why)) ending source_failed start lef
 Does (Some (job.Along solo slices room lane why)) ending source_failed start left old new =
     AuditsAlong why (audit_setup solo slices room lane) ending start left old new
 Does (Some (job.Balance slices most)) ending source_failed start left old new =
-    Balances slices most ending start left old new
+    Balances ending slices most start left old new
 Does (Some job.Save) ending source_failed start left old new = Saves ending start left old new
 Does (Some job.Resume) ending source_failed start left old new = Resumes ending source_failed start left old new
 

@@ -2,7 +2,6 @@ pub mod Counting
 pub mod Make
 pub mod Audit
 pub mod Along
-pub mod Balance
 pub mod Export
 pub mod ExportProgress
 pub mod Import

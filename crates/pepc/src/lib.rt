@@ -4,7 +4,6 @@
 
 mod along;
 mod audit;
-mod balance;
 mod drive;
 mod export;
 mod import;

@@ -7,13 +7,13 @@ ghost use Rattle.pepc.specs.Jobs.{Completes, Does, plain_job, without_threads};
 
 use crate::along::along;
 use crate::audit::audit;
-use crate::balance::balance;
 use crate::drive::drive;
 use crate::export::export;
 use crate::import::import;
 use crate::make::make;
 use crate::resume::resume;
 use audit_core::Setup;
+use balance_plan::balance;
 use command_words::{Job, job};
 use pc_outside::{Sink, Source};
 use record_codec::lines_say_one_state;
