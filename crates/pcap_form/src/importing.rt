@@ -1,6 +1,6 @@
 //! A capture becomes a trace.
 ghost use Rattle.std.specs.Prelude.{◌≡◌, ◌+◌, ◌≤◌, ◌^◌, ◌++◌, [], ℕ, List, Option, length, take};
-ghost use Rattle.std.specs.Prelude.{unwrap_or, OnOk, OnErr, IfOk, IfErr, Ok, Err};
+ghost use Rattle.std.specs.Prelude.{unwrap_or, OnOk, IfOk, IfErr, Ok, Err};
 ghost use Rattle.pc_outside.specs.Faults.{Rises};
 ghost use Rattle.pc_outside.specs.Prefixes.{AppendsPrefix};
 ghost use Rattle.pcap_form.specs.Head.{head_of};
