@@ -1,61 +1,20 @@
--- What lists of components, filters and identifiers keep, as they grow.
-use Rattle.std.proofs.Common.{◌≡◌, ℕ, suc, ◌+◌, ◌<◌, ◌≤◌, true, false, nat_eq, List, [], ◌∷◌, ◌++◌, length, get_or, take, drop, map, drop-cons, sym, ap, subst, ◌∙◌, inl, inr}
+-- What lists of filters keep, as they grow.
+use Rattle.std.proofs.Common.{◌≡◌, ℕ, suc, ◌+◌, ◌<◌, ◌≤◌, true, false, nat_eq, List, [], ◌∷◌, ◌++◌, length, get_or, take, drop, drop-cons, sym, ap, subst, ◌∙◌, inl, inr}
 use Rattle.std.specs.List.{list_any, AllByRecursion, IsDistinct}
 use Rattle.std.proofs.lemmas.Cmp.{nat_eq_equiv}
 use Rattle.std.proofs.lemmas.List.{map_push, map-append, length-map, take-append-drop, take_more}
 use Rattle.std.proofs.lemmas.Bool.{eqb-true, or_cases}
 use Rattle.std.proofs.lemmas.Map.Keys.{IsDistinct-push}
 use Rattle.std.proofs.lemmas.Map.Steps.{length-le_from_distinct_below}
-use Rattle.tft_codec.specs.declared.component.Component.{Component}
 use Rattle.tft_codec.specs.declared.filter.Filter.{Filter}
-use Rattle.tft_codec.specs.Component.{type_octet, IsComponent, AreComponents, has}
-use Rattle.tft_codec.specs.Filter.{ids, IsFilter, AreFilters, AreIds}
+use Rattle.tft_codec.specs.Component.{has}
+use Rattle.tft_codec.specs.Filter.{ids, IsFilter, AreFilters}
 use Rattle.tft_codec.proofs.Lists.{none_differ, each_push, each_middle, new_from_distinct, has_map}
 
 -- the element at a place, between those before and those after
 pub parted : {X : Type 0} (xs : List X) (i : ℕ) (d : X) → i < length xs
     → xs ≡ take i xs ++ get_or xs i d ∷ drop (suc i) xs
 parted xs i d within = sym (take-append-drop i xs) ∙ ap (λ back. take i xs ++ back) (drop-cons xs i d within)
-
-pub none_components : AreComponents []
-none_components = record { fit = tt; differ = none_differ }
-
-pub components_push : (cs : List Component) (c : Component) → AreComponents cs → IsComponent c
-    → has (map type_octet cs) (type_octet c) ≡ false → AreComponents (cs ++ c ∷ [])
-components_push cs c kept fits new = record {
-  fit = each_push IsComponent cs c kept.fit fits;
-  differ = rw (map_push type_octet cs c)
-      (IsDistinct-push nat_eq_equiv (map type_octet cs) (type_octet c) kept.differ new);
-}
-
--- a loop's step, and where it stops
-pub components_step : (cs : List Component) (i : ℕ) (d : Component) (octet : ℕ) → i < length cs
-    → octet ≡ type_octet (get_or cs i d) → AreComponents (take i cs) → IsComponent (get_or cs i d)
-    → list_any (λ x. nat_eq octet (type_octet x)) (take i cs) ≡ false → AreComponents (take (i + 1) cs)
-components_step cs i d octet within at kept fits new =
-    let c = get_or cs i d in
-    let absent : has (map type_octet (take i cs)) (type_octet c) ≡ false
-    = has_map type_octet (take i cs) (type_octet c)
-    ∙ subst (λ n. list_any (λ x. nat_eq n (type_octet x)) (take i cs) ≡ false) at new in
-    rw (take_more cs i d within) (components_push (take i cs) c kept fits absent)
-
-pub component_new : (cs : List Component) (c : Component) (rest : List Component) → AreComponents (cs ++ c ∷ rest)
-    → has (map type_octet cs) (type_octet c) ≡ false
-component_new cs c rest kept =
-    new_from_distinct (map type_octet cs) (type_octet c) (map type_octet rest)
-    (subst (IsDistinct nat_eq) (map-append type_octet cs (c ∷ rest)) kept.differ)
-
-pub component_repeated : (cs : List Component) (i : ℕ) (d : Component) (octet : ℕ) → i < length cs
-    → octet ≡ type_octet (get_or cs i d)
-    → list_any (λ x. nat_eq octet (type_octet x)) (take i cs) ≡ true → AreComponents cs → ⊥
-component_repeated cs i d octet within at old kept =
-    let c = get_or cs i d in
-    let new : has (map type_octet (take i cs)) (type_octet c) ≡ false
-    = component_new (take i cs) c (drop (suc i) cs) (subst AreComponents (parted cs i d within) kept) in
-    let there : has (map type_octet (take i cs)) (type_octet c) ≡ true
-    = has_map type_octet (take i cs) (type_octet c)
-    ∙ subst (λ n. list_any (λ x. nat_eq n (type_octet x)) (take i cs) ≡ true) at old in
-    cc
 
 pub none_filters : AreFilters []
 none_filters = record { each = tt; differ = none_differ }
@@ -99,29 +58,6 @@ filter_at_fits fs i f within at kept =
     let whole : fs ≡ take i fs ++ f ∷ drop (suc i) fs
     = parted fs i f within ∙ ap (λ (g : Filter). take i fs ++ g ∷ drop (suc i) fs) (sym at) in
     filter_fits (take i fs) f (drop (suc i) fs) (subst AreFilters whole kept)
-
--- ---- identifiers
-
-pub ids_step : (xs : List ℕ) (i : ℕ) → i < length xs → AllByRecursion (λ x. x < 16) (take i xs)
-    → IsDistinct nat_eq (take i xs) → get_or xs i 0 < 16 → has (take i xs) (get_or xs i 0) ≡ false
-    → AllByRecursion (λ x. x < 16) (take (i + 1) xs) × IsDistinct nat_eq (take (i + 1) xs)
-ids_step xs i within each differ small new =
-    rw (take_more xs i 0 within) (
-      each_push (λ x. x < 16) (take i xs) (get_or xs i 0) each small,
-      IsDistinct-push nat_eq_equiv (take i xs) (get_or xs i 0) differ new,
-    )
-
-pub id_repeated : (xs : List ℕ) (i : ℕ) → i < length xs → has (take i xs) (get_or xs i 0) ≡ true → AreIds xs → ⊥
-id_repeated xs i within old kept =
-    let new : has (take i xs) (get_or xs i 0) ≡ false
-    = new_from_distinct (take i xs) (get_or xs i 0) (drop (suc i) xs)
-    (subst (IsDistinct nat_eq) (parted xs i 0 within) kept.differ) in
-    cc
-
-pub id_small : (xs : List ℕ) (i : ℕ) → i < length xs → AreIds xs → get_or xs i 0 < 16
-id_small xs i within kept =
-    each_middle (λ x. x < 16) (take i xs) (get_or xs i 0) (drop (suc i) xs)
-    (subst (AllByRecursion (λ x. x < 16)) (parted xs i 0 within) kept.each)
 
 below_from_has : (fs : List Filter) → AllByRecursion IsFilter fs → (q : ℕ) → list_any (nat_eq q) (ids fs) ≡ true
     → q < 16

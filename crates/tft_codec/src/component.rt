@@ -1,7 +1,7 @@
 //! The components of a packet filter.
 
-ghost use Rattle.std.specs.Prelude.{◌≡◌, ◌↔◌, IsTrue, IfSome, IfNone, IfOk, length, nat_eq};
-ghost use Rattle.tft_codec.specs.Component.{type_octet, component_text, IsComponent, AreComponents};
+ghost use Rattle.std.specs.Prelude.{◌≡◌, IfOk, length, nat_eq};
+ghost use Rattle.tft_codec.specs.Component.{type_octet, component_text, AreComponents};
 ghost use Rattle.std.specs.List.{list_any};
 ghost use Rattle.std.specs.Cmp.Lexicographic.{pointwise, lists_per, lists_equiv};
 
@@ -86,32 +86,6 @@ impl Component {
             Component::Tos(_, _) => 3,
         }
     }
-
-    /// Each number is in the range of its type.
-    pub(crate) fn known(&self)
-        ensures { IsComponent self.now }
-    {
-        match self {
-            Component::RemoteAddr(first, second) | Component::LocalAddr(first, second) => {
-                let (_first, _second) = (*first, *second);
-            }
-            Component::LocalRange(low, high) | Component::RemoteRange(low, high) => {
-                let (_low, _high) = (*low, *high);
-            }
-            Component::Tos(value, mask) => {
-                let (_value, _mask) = (*value, *mask);
-            }
-            Component::Protocol(number) => {
-                let _number = *number;
-            }
-            Component::LocalPort(port) | Component::RemotePort(port) => {
-                let _port = *port;
-            }
-            Component::Spi(spi) => {
-                let _spi = *spi;
-            }
-        }
-    }
 }
 
 /// Whether one of the components has that type.
@@ -121,20 +95,7 @@ pub(crate) fn has_type(items: &[Component], octet: u8) -> bool
     items.iter().any(|item| octet == item.type_octet())
 }
 
-/// Whether no two of the components have one type.
-fn are_components(items: &[Component]) -> bool
-    ensures { IsTrue result ↔ AreComponents items.now }
-{
-    for (i, item) in items.iter().enumerate() {
-        item.known();
-        if has_type(&items[..i], item.type_octet()) {
-            return false;
-        }
-    }
-    true
-}
-
-/// The components of one filter, of different types, in the order of their octets.
+/// The components of one filter, of different types, in the order of their octets. They are made by reading.
 #[derive(Debug, Drop)]
 pub struct Components {
     pub(crate) items: Vec<Component>,
@@ -153,18 +114,6 @@ impl Model for Components {
 }
 
 impl Components {
-    /// The components of a list; `None` where two of them have one type.
-    pub fn of(items: Vec<Component>) -> Option<Components>
-        ensures made { IfSome result (λ cs. (cs ≡ items.items) × AreComponents items.items) }
-        ensures none { IfNone result (AreComponents items.items → ⊥) }
-    {
-        if are_components(&items) {
-            Some(Components { items })
-        } else {
-            None
-        }
-    }
-
     pub fn as_slice(&self) -> &[Component]
         ensures value { result.now ≡ self.now }
         ensures differ { AreComponents self.now }

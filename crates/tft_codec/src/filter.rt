@@ -203,22 +203,7 @@ pub(crate) fn contains_id(ids: &[u8], id: u8) -> bool
     ids.iter().any(|other| id == *other)
 }
 
-/// Whether a list may be the identifiers of a template.
-fn are_ids(items: &[u8]) -> bool
-    ensures { IsTrue result ↔ AreIds items.now }
-{
-    if items.is_empty() || items.len() > 15 {
-        return false;
-    }
-    for (i, item) in items.iter().enumerate() {
-        if *item >= 16 || contains_id(&items[..i], *item) {
-            return false;
-        }
-    }
-    true
-}
-
-/// The identifiers that a template removes: 1 to 15 different ones.
+/// The identifiers that a template removes: 1 to 15 different ones. They are made by reading.
 #[derive(Debug, Drop)]
 pub struct Ids {
     pub(crate) items: Vec<u8>,
@@ -236,18 +221,6 @@ impl Model for Ids {
 }
 
 impl Ids {
-    /// The identifiers of a list; `None` where they are no 1 to 15 different ones below 16.
-    pub fn of(items: Vec<u8>) -> Option<Ids>
-        ensures made { IfSome result (λ xs. (xs ≡ items.items) × AreIds items.items) }
-        ensures none { IfNone result (AreIds items.items → ⊥) }
-    {
-        if are_ids(&items) {
-            Some(Ids { items })
-        } else {
-            None
-        }
-    }
-
     pub fn as_slice(&self) -> &[u8]
         ensures value { result.now ≡ self.now }
         ensures valid { AreIds self.now }
