@@ -1,6 +1,6 @@
 //! What a Modify Bearer Request asks for.
 use crate::ranges::are_asks;
-use pc_base::{NoMemory, Peer};
+use pc_base::Peer;
 use std::marker::Model;
 
 /// One ask: the active bearer of this EBI, and where its downlink packets go from now on, if that
@@ -31,7 +31,7 @@ impl Model for Asks {
 }
 
 impl Asks {
-    ghost use Rattle.std.specs.Prelude.{◌≡◌, IfOk, IfSome, IfNone};
+    ghost use Rattle.std.specs.Prelude.{◌≡◌, IfSome, IfNone};
     ghost use Rattle.bearer_state.specs.Ask.{AreAsks};
 
     /// The asks of a list; None where they are more than 11, an EBI is out of its range, or two have one.
@@ -52,12 +52,5 @@ impl Asks {
         ensures valid { AreAsks self.now }
     {
         &self.items
-    }
-
-    /// A copy of the asks.
-    pub fn try_clone(&self) -> Result<Asks, NoMemory>
-        ensures { IfOk result (λ copy. copy ≡ self.now) }
-    {
-        self.clone()
     }
 }
