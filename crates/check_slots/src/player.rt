@@ -1,9 +1,9 @@
 //! A slot that is played twice: by the plain gateway, and by a subscriber with its running counters.
 use crate::printing::{end_line, push_effects, push_opens, push_verdict};
 use crate::stop::EventStop;
-use gate_model::{Command, Effects, Event, Gateway, Happened, Packet, Reply, Slot, Verdict};
+use gate_model::{Command, Event, Gateway, Happened, Packet, Reply, Slot, Verdict};
 use ipv4_packet::Ip4;
-use packet_steps::{Counters, LentVerdict, gpdu};
+use packet_steps::{Counters, Effects, LentVerdict, gpdu};
 use pc_base::{LAST_MOMENT, Moment, Octets, SliceNo};
 use report_lines::{push_answer, push_row};
 use std::alloc::Global;

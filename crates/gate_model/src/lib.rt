@@ -19,6 +19,5 @@ pub use laws::{
     few_events_are_few, few_events_leave_room, rates_are_kept, sessions_are_of_commands,
     sessions_keep_their_slot,
 };
-pub use packet_steps::Effects;
 pub use pc_base::{Packet, Reply, Slot, Verdict};
 pub use std::alloc::AllocError as NoMemory;
